@@ -18,6 +18,10 @@ host_files_begun files = option_map (λ file. string_bytes file.name) files.«op
 abbrev pub host_files_failed : {R F D : Type 0} → HostFiles R F D → Option (List ℕ)
 host_files_failed files = option_map string_bytes files.failed
 
+-- the path of the new file
+abbrev pub host_new_name : {R F D : Type 0} → HostNew R F D → List ℕ
+host_new_name file = file.name.now
+
 -- how many writes to the new file have failed
 abbrev pub host_new_faults : {R F D : Type 0} → HostNew R F D → ℕ
 host_new_faults file = file.faults

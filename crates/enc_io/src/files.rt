@@ -8,8 +8,8 @@ use crate::Failed;
 
 /// A source of files, of which at most one is begun at a time.
 ///
-/// A call that fails leaves none begun. An implementor that cannot foresee its bytes, as the file
-/// system, tells no texts; what it reads is then bound in number alone.
+/// A call that fails leaves none begun. A source whose bytes cannot be foreseen, as the disk, tells
+/// no texts: of its reads it is known how many bytes they put, and not which.
 pub trait Files {
     /// The bytes of each file by its name, where they are known.
     ghost texts: { Self → Option Texts };

@@ -7,6 +7,8 @@ use std::io::Read;
 use std::rt;
 
 /// The files of the system by their paths, for reading.
+///
+/// `begin` fails where the path cannot be opened, and `read` where the system reports an error.
 #[derive(Drop)]
 pub struct HostFiles<'a, R: rt::Files> {
     rt: &'a R,

@@ -9,6 +9,8 @@ use std::io::Write;
 use std::rt::Files;
 
 /// A file that is made, or emptied, at the first write. Without a write nothing is touched.
+///
+/// A write fails where the file cannot be made, or where the system takes none of the bytes.
 #[derive(Drop)]
 pub struct HostNew<'a, R: Files> {
     rt: &'a R,
@@ -18,11 +20,12 @@ pub struct HostNew<'a, R: Files> {
 }
 
 impl<'a, R: Files> HostNew<'a, R> {
-    ghost use Rattle.enc_io.specs.HostView.{host_new_faults};
+    ghost use Rattle.enc_io.specs.HostView.{host_new_name, host_new_faults};
 
     /// A sink for the file of this path, which is not yet made.
     pub fn new(rt: &'a R, name: &'static str) -> Self
-        ensures { host_new_faults result ≡ 0 }
+        ensures named { host_new_name result ≡ name.now }
+        ensures faultless { host_new_faults result ≡ 0 }
     {
         HostNew {
             rt,

@@ -6,6 +6,8 @@ use crate::{Failed, Sink};
 use std::io;
 
 /// The standard output.
+///
+/// A write fails where the system takes none of the bytes.
 #[derive(Drop)]
 pub struct HostOut<R: Print + Drop> {
     stream: R,
@@ -38,6 +40,8 @@ impl<R: Print + Drop> Sink for HostOut<R> {
 }
 
 /// The standard error stream.
+///
+/// A write fails where the system takes none of the bytes.
 #[derive(Drop)]
 pub struct HostErr<R: Print + Drop> {
     stream: R,

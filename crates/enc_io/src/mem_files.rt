@@ -52,6 +52,13 @@ impl MemFiles {
             failed: None,
         }
     }
+
+    /// How many calls have failed.
+    pub fn faults(&self) -> u64
+        ensures { result ≡ mem_files_faults self.now }
+    {
+        self.faults
+    }
 }
 
 impl Files for MemFiles {
@@ -83,6 +90,7 @@ impl Files for MemFiles {
 
         // Which calls fail.
         ensures counted { CountsCall self.old self.new }
+        ensures one_fault { OnErr result (mem_files_faults self.new ≡ mem_files_faults self.old + 1) }
         ensures fails { IsErr result ↔ (Contains (mem_files_failing self.old) (next_call (mem_files_calls self.old)) ⊎ IsNone (text_of (mem_files_texts self.old) (string_bytes name))) }
     {
         let fails = self.calls.next_fails();
@@ -112,6 +120,7 @@ impl Files for MemFiles {
 
         // Which calls fail, and how many bytes the others put.
         ensures counted { CountsCall self.old self.new }
+        ensures one_fault { OnErr result (mem_files_faults self.new ≡ mem_files_faults self.old + 1) }
         ensures fails { IsErr result ↔ Contains (mem_files_failing self.old) (next_call (mem_files_calls self.old)) }
         ensures put { IfOk result (λ count. count ≡ min (length (mem_files_left self.old)) (length into.new)) }
     {

@@ -52,6 +52,13 @@ impl MemSink {
     {
         &self.buffer[..self.used]
     }
+
+    /// How many calls have failed.
+    pub fn faults(&self) -> u64
+        ensures { result ≡ mem_sink_faults self.now }
+    {
+        self.faults
+    }
 }
 
 impl Sink for MemSink {
@@ -72,6 +79,7 @@ impl Sink for MemSink {
 
         // Which calls fail, and how many bytes the others take.
         ensures counted { CountsCall self.old self.new }
+        ensures one_fault { OnErr result (mem_sink_faults self.new ≡ mem_sink_faults self.old + 1) }
         ensures fails { IsErr result ↔ (Contains (mem_sink_failing self.old) (next_call (mem_sink_calls self.old)) ⊎ (mem_sink_room self.old ≡ 0)) }
         ensures taken { IfOk result (λ count. count ≡ min (min (length bytes.now) (mem_sink_piece self.old)) (mem_sink_room self.old)) }
         ensures room { IfOk result (λ count. mem_sink_room self.new + count ≡ mem_sink_room self.old) }
