@@ -1,9 +1,9 @@
 -- What is known of files in memory.
-use Rattle.std.specs.Prelude.{◌≡◌, ℕ, List, [], Option, drop, string_bytes, unwrap_or}
+use Rattle.std.specs.Prelude.{◌≡◌, ℕ, Contains, IsNone, List, [], Option, drop, string_bytes, unwrap_or}
 use Rattle.std.specs.Option.{option_map}
 use Rattle.enc_io.specs.Calls.{next_call}
 use Rattle.enc_io.specs.MemFiles.{pairs_of, text_in}
-use Rattle.enc_io.specs.Texts.{Texts}
+use Rattle.enc_io.specs.Texts.{Texts, text_of}
 use Rattle.enc_io.specs.declared.mem_files.MemFiles.{MemFiles}
 
 -- the names and the bytes of the pairs
@@ -37,6 +37,14 @@ mem_files_calls m = m.calls.made
 -- the numbers of the calls that are to fail
 abbrev pub mem_files_failing : MemFiles → List ℕ
 mem_files_failing m = m.calls.failing.items
+
+-- the next call is one of those that are to fail
+abbrev pub IsNextListed : MemFiles → Type 0
+IsNextListed m = Contains (mem_files_failing m) (next_call (mem_files_calls m))
+
+-- no pair has this name
+abbrev pub IsMissing : MemFiles → List ℕ → Type 0
+IsMissing m name = IsNone (text_of (mem_files_texts m) name)
 
 -- one more call was made, and the calls that are to fail stay the same
 pub record CountsCall (old new : MemFiles) : Type 0 where

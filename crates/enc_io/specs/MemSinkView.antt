@@ -1,5 +1,5 @@
 -- What is known of a sink in memory.
-use Rattle.std.specs.Prelude.{◌≡◌, ◌-◌, ℕ, List, take, vec_len}
+use Rattle.std.specs.Prelude.{◌≡◌, ◌-◌, ℕ, Contains, List, min, take, vec_len}
 use Rattle.enc_io.specs.Calls.{next_call}
 use Rattle.enc_io.specs.declared.mem_sink.MemSink.{MemSink}
 
@@ -26,6 +26,14 @@ mem_sink_calls s = s.calls.made
 -- the numbers of the calls that are to fail
 abbrev pub mem_sink_failing : MemSink → List ℕ
 mem_sink_failing s = s.calls.failing.items
+
+-- the next call is one of those that are to fail
+abbrev pub IsNextListed : MemSink → Type 0
+IsNextListed s = Contains (mem_sink_failing s) (next_call (mem_sink_calls s))
+
+-- how many of so many bytes it takes in one call
+abbrev pub mem_sink_taken : MemSink → ℕ → ℕ
+mem_sink_taken s count = min (min count (mem_sink_piece s)) (mem_sink_room s)
 
 -- one more call was made, and the piece and the calls that are to fail stay the same
 pub record CountsCall (old new : MemSink) : Type 0 where

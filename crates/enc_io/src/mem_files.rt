@@ -64,7 +64,7 @@ impl MemFiles {
 impl Files for MemFiles {
     ghost use Rattle.std.specs.Prelude.{Some};
     ghost use Rattle.enc_io.specs.MemFilesLaws.{mem_files_tied};
-    ghost use Rattle.enc_io.specs.MemFilesView.{mem_files_texts, mem_files_rest, mem_files_left, mem_files_begun, mem_files_failed, mem_files_faults, mem_files_calls, mem_files_failing, CountsCall};
+    ghost use Rattle.enc_io.specs.MemFilesView.{mem_files_texts, mem_files_rest, mem_files_left, mem_files_begun, mem_files_failed, mem_files_faults, IsNextListed, IsMissing, CountsCall};
 
     ghost texts = { λ m. Some (mem_files_texts m) };
 
@@ -82,7 +82,8 @@ impl Files for MemFiles {
         requires { mem_files_faults self.old < 2 ^ 64 - 1 }
         ensures texts { mem_files_texts self.new ≡ mem_files_texts self.old }
         ensures begun { OnOk result (mem_files_begun self.new ≡ Some (string_bytes name)) }
-        ensures opened { OnOk result (Opens (Some (mem_files_texts self.old)) (string_bytes name) (mem_files_rest self.new)) }
+        ensures opened { OnOk result
+            (Opens (Some (mem_files_texts self.old)) (string_bytes name) (mem_files_rest self.new)) }
         ensures closed { OnErr result (mem_files_begun self.new ≡ None) }
         ensures cause { HasCause (mem_files_faults self.old) (mem_files_faults self.new) result }
         ensures kept { OnOk result (mem_files_failed self.new ≡ mem_files_failed self.old) }
@@ -91,7 +92,7 @@ impl Files for MemFiles {
         // Which calls fail.
         ensures counted { CountsCall self.old self.new }
         ensures one_fault { OnErr result (mem_files_faults self.new ≡ mem_files_faults self.old + 1) }
-        ensures fails { IsErr result ↔ (Contains (mem_files_failing self.old) (next_call (mem_files_calls self.old)) ⊎ IsNone (text_of (mem_files_texts self.old) (string_bytes name))) }
+        ensures fails { IsErr result ↔ (IsNextListed self.old ⊎ IsMissing self.old (string_bytes name)) }
     {
         let fails = self.calls.next_fails();
         if fails || find(&self.files, name.as_str()).is_none() {
@@ -111,7 +112,8 @@ impl Files for MemFiles {
         ensures texts { mem_files_texts self.new ≡ mem_files_texts self.old }
         ensures begun { OnOk result (mem_files_begun self.new ≡ mem_files_begun self.old) }
         ensures within { IfOk result (λ count. count ≤ length into.new) }
-        ensures bytes { IfOk result (λ count. Consumes (mem_files_rest self.old) (mem_files_rest self.new) (take count into.new)) }
+        ensures bytes { IfOk result (λ count.
+            Consumes (mem_files_rest self.old) (mem_files_rest self.new) (take count into.new)) }
         ensures end { IfOk result (λ count. count ≡ 0 → IsAtEnd (mem_files_rest self.old)) }
         ensures closed { OnErr result (mem_files_begun self.new ≡ None) }
         ensures cause { HasCause (mem_files_faults self.old) (mem_files_faults self.new) result }
@@ -121,7 +123,7 @@ impl Files for MemFiles {
         // Which calls fail, and how many bytes the others put.
         ensures counted { CountsCall self.old self.new }
         ensures one_fault { OnErr result (mem_files_faults self.new ≡ mem_files_faults self.old + 1) }
-        ensures fails { IsErr result ↔ Contains (mem_files_failing self.old) (next_call (mem_files_calls self.old)) }
+        ensures fails { IsErr result ↔ IsNextListed self.old }
         ensures put { IfOk result (λ count. count ≡ min (length (mem_files_left self.old)) (length into.new)) }
     {
         let fails = self.calls.next_fails();

@@ -62,7 +62,7 @@ impl MemSink {
 }
 
 impl Sink for MemSink {
-    ghost use Rattle.enc_io.specs.MemSinkView.{mem_sink_written, mem_sink_room, mem_sink_piece, mem_sink_faults, mem_sink_calls, mem_sink_failing, CountsCall};
+    ghost use Rattle.enc_io.specs.MemSinkView.{mem_sink_written, mem_sink_room, mem_sink_taken, mem_sink_faults, IsNextListed, CountsCall};
 
     ghost written = { λ s. Some (mem_sink_written s) };
 
@@ -73,15 +73,17 @@ impl Sink for MemSink {
         requires some { 0 < length bytes.now }
         ensures progress { IfOk result (λ count. 0 < count) }
         ensures within { IfOk result (λ count. count ≤ length bytes.now) }
-        ensures bytes { IfOk result (λ count. Appends (Some (mem_sink_written self.old)) (Some (mem_sink_written self.new)) (take count bytes.now)) }
+        ensures bytes { IfOk result (λ count.
+            Appends (Some (mem_sink_written self.old)) (Some (mem_sink_written self.new))
+            (take count bytes.now)) }
         ensures none { OnErr result (Some (mem_sink_written self.new) ≡ Some (mem_sink_written self.old)) }
         ensures cause { HasCause (mem_sink_faults self.old) (mem_sink_faults self.new) result }
 
         // Which calls fail, and how many bytes the others take.
         ensures counted { CountsCall self.old self.new }
         ensures one_fault { OnErr result (mem_sink_faults self.new ≡ mem_sink_faults self.old + 1) }
-        ensures fails { IsErr result ↔ (Contains (mem_sink_failing self.old) (next_call (mem_sink_calls self.old)) ⊎ (mem_sink_room self.old ≡ 0)) }
-        ensures taken { IfOk result (λ count. count ≡ min (min (length bytes.now) (mem_sink_piece self.old)) (mem_sink_room self.old)) }
+        ensures fails { IsErr result ↔ (IsNextListed self.old ⊎ (mem_sink_room self.old ≡ 0)) }
+        ensures taken { IfOk result (λ count. count ≡ mem_sink_taken self.old (length bytes.now)) }
         ensures room { IfOk result (λ count. mem_sink_room self.new + count ≡ mem_sink_room self.old) }
         ensures same_room { OnErr result (mem_sink_room self.new ≡ mem_sink_room self.old) }
     {

@@ -19,7 +19,8 @@ pub trait Sink {
         requires some { 0 < length bytes.now }
         ensures progress { IfOk result (λ count. 0 < count) }
         ensures within { IfOk result (λ count. count ≤ length bytes.now) }
-        ensures bytes { IfOk result (λ count. Appends (written self.old) (written self.new) (take count bytes.now)) }
+        ensures bytes { IfOk result (λ count.
+            Appends (written self.old) (written self.new) (take count bytes.now)) }
         ensures none { OnErr result (written self.new ≡ written self.old) }
         ensures cause { HasCause (faults self.old) (faults self.new) result };
 }

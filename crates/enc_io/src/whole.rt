@@ -55,7 +55,9 @@ fn read_more<F: Files>(
     requires begun { IsSome (F.begun files.old) }
     requires some { 0 < length piece.old }
     ensures texts { F.texts files.new ≡ F.texts files.old }
-    ensures more { IfOk result (λ more. ReadsMore (F.rest files.old) (F.rest files.new) bytes.old.items bytes.new.items (length piece.old) more) }
+    ensures more { IfOk result (λ more.
+        ReadsMore (F.rest files.old) (F.rest files.new) bytes.old.items bytes.new.items
+        (length piece.old) more) }
     ensures begun { OnOk result (F.begun files.new ≡ F.begun files.old) }
     ensures closed { IsErrOf result ReadFail.Failed → F.begun files.new ≡ None }
     ensures cause { HasReadCause (F.faults files.old) (F.faults files.new) result }
