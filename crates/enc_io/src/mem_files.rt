@@ -1,11 +1,10 @@
 // Files in memory, of which chosen calls fail.
 ghost use Rattle.std.specs.Io.KnownBytes.{Consumes, IsAtEnd};
-ghost use Rattle.std.specs.Prelude.{◌≡◌, ◌<◌, ◌≤◌, ◌+◌, ◌-◌, ◌^◌, ◌↔◌, ◌⊎◌, [], Contains, IfOk, IsErr, IsNone, IsSome, None, OnErr, OnOk, length, min, take, drop, string_bytes, unwrap_or};
-ghost use Rattle.std.specs.Option.{ForSome, option_map, option_copied};
-ghost use Rattle.enc_io.specs.Calls.{next_call};
+ghost use Rattle.std.specs.Prelude.{◌≡◌, ◌<◌, ◌≤◌, ◌+◌, ◌-◌, ◌^◌, ◌↔◌, ◌⊎◌, [], IfOk, IsErr, IsSome, None, OnErr, OnOk, length, min, take, drop, string_bytes, unwrap_or};
+ghost use Rattle.std.specs.Option.{option_map, option_copied};
 ghost use Rattle.enc_io.specs.Causes.{HasCause};
 ghost use Rattle.enc_io.specs.MemFiles.{pairs_of, text_in, IsAmong};
-ghost use Rattle.enc_io.specs.Texts.{Opens, text_of};
+ghost use Rattle.enc_io.specs.Texts.{Opens};
 
 use crate::calls::Calls;
 use crate::{Failed, Files};

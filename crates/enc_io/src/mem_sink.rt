@@ -1,7 +1,6 @@
 // A sink in memory, of which chosen calls fail.
-ghost use Rattle.std.specs.Prelude.{◌≡◌, ◌≤◌, ◌<◌, ◌+◌, ◌-◌, ◌^◌, ◌↔◌, ◌⊎◌, [], Contains, IfOk, IsErr, OnErr, Some, length, min, take, vec_len};
+ghost use Rattle.std.specs.Prelude.{◌≡◌, ◌≤◌, ◌<◌, ◌+◌, ◌-◌, ◌^◌, ◌↔◌, ◌⊎◌, [], IfOk, IsErr, OnErr, Some, length, take, vec_len};
 ghost use Rattle.std.specs.Io.KnownBytes.{Appends};
-ghost use Rattle.enc_io.specs.Calls.{next_call};
 ghost use Rattle.enc_io.specs.Causes.{HasCause};
 
 use crate::calls::Calls;

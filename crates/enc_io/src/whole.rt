@@ -1,6 +1,6 @@
 // A file that is read whole, up to a limit, and bytes that are written whole.
-ghost use Rattle.std.specs.Prelude.{◌≡◌, ◌<◌, ◌≤◌, ◌+◌, ◌-◌, ◌^◌, ◌++◌, [], List, ℕ, length, take, Some, None, IsSome, IfOk, OnOk, OnErr, IsErrOf, IsTrue, vec_len};
-ghost use Rattle.std.specs.Io.KnownBytes.{Appends, Consumes, IsAtEnd};
+ghost use Rattle.std.specs.Prelude.{◌≡◌, ◌<◌, ◌≤◌, ◌+◌, ◌-◌, ◌^◌, [], length, Some, None, IsSome, IfOk, OnOk, OnErr, IsErrOf, vec_len};
+ghost use Rattle.std.specs.Io.KnownBytes.{Appends};
 ghost use Rattle.enc_io.specs.Causes.{HasCause, HasReadCause, AppendsPrefix};
 ghost use Rattle.enc_io.specs.Texts.{IsReadOf, ReadsMore};
 
