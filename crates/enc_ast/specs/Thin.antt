@@ -1,0 +1,160 @@
+-- Programs in the thin form: one active class whose method `main` computes with integers and prints.
+use Rattle.std.specs.Prelude.{◌&&◌, ℕ, Bool, true, false, not, List, [], ◌∷◌, ◌++◌, length, nat_le, codes}
+use Rattle.std.specs.List.{list_any, list_all}
+use Rattle.std.specs.Str.{bytes_eq}
+use Rattle.enc_ast.specs.declared.decls.Program.{Program}
+use Rattle.enc_ast.specs.declared.decls.Decl.{Decl}
+use Rattle.enc_ast.specs.declared.decls.Decl.TheVariants.{Active}
+use Rattle.enc_ast.specs.declared.decls.Field.{Field}
+use Rattle.enc_ast.specs.declared.decls.Method.{Method}
+use Rattle.enc_ast.specs.declared.decls.Param.{Param}
+use Rattle.enc_ast.specs.declared.types.TypeForm.{TypeForm, out-TypeForm}
+use Rattle.enc_ast.specs.declared.types.TypeForm.TheOpen.{TypeForm-F}
+use Rattle.enc_ast.specs.declared.types.TypeText.{TypeText}
+use Rattle.enc_ast.specs.declared.stmts.Stmt.{Stmt}
+use Rattle.enc_ast.specs.declared.stmts.StmtForm.{StmtForm}
+use Rattle.enc_ast.specs.declared.stmts.StmtForm.TheVariants.{Let, Print}
+use Rattle.enc_ast.specs.declared.stmts.SourceForm.{SourceForm}
+use Rattle.enc_ast.specs.declared.stmts.SourceForm.TheVariants as sources
+use Rattle.enc_ast.specs.declared.exprs.Expr.{Expr}
+use Rattle.enc_ast.specs.declared.exprs.ExprForm.{ExprForm, out-ExprForm}
+use Rattle.enc_ast.specs.declared.exprs.ExprForm.TheOpen.{ExprForm-F}
+
+-- ---- expressions, where the variables of these names are bound
+
+-- whether one of the names is the word
+abbrev pub is_among : List (List ℕ) → List ℕ → Bool
+is_among names word = list_any (λ name. bytes_eq name word) names
+
+-- one level of an expression, and one of a type
+abbrev pub Layer : Type 0
+Layer = ExprForm-F ExprForm Expr
+
+abbrev pub TypeLayer : Type 0
+TypeLayer = TypeForm-F TypeForm TypeText
+
+-- an integer, or a variable
+abbrev pub is_part_layer : List (List ℕ) → Layer → Bool
+is_part_layer names (ExprForm-F.Int value) = true
+is_part_layer names (ExprForm-F.Name word) = is_among names word
+is_part_layer names (ExprForm-F.Text bytes) = false
+is_part_layer names (ExprForm-F.Binary operator left right) = false
+
+abbrev pub is_part : List (List ℕ) → Expr → Bool
+is_part names expr = is_part_layer names (out-ExprForm expr.form)
+
+-- a part, or two with an operator between
+abbrev pub is_sum_layer : List (List ℕ) → Layer → Bool
+is_sum_layer names (ExprForm-F.Int value) = true
+is_sum_layer names (ExprForm-F.Name word) = is_among names word
+is_sum_layer names (ExprForm-F.Text bytes) = false
+is_sum_layer names (ExprForm-F.Binary operator left right) = is_part names left && is_part names right
+
+abbrev pub is_sum : List (List ℕ) → Expr → Bool
+is_sum names expr = is_sum_layer names (out-ExprForm expr.form)
+
+-- what can be printed: a sum, or a text
+abbrev pub is_item_layer : List (List ℕ) → Layer → Bool
+is_item_layer names (ExprForm-F.Text bytes) = true
+is_item_layer names (ExprForm-F.Int value) = true
+is_item_layer names (ExprForm-F.Name word) = is_among names word
+is_item_layer names (ExprForm-F.Binary operator left right) = is_part names left && is_part names right
+
+abbrev pub is_item : List (List ℕ) → Expr → Bool
+is_item names expr = is_item_layer names (out-ExprForm expr.form)
+
+-- ---- statements
+
+-- whether a new variable is bound to an integer, a variable or a sum of two parts
+abbrev pub is_sum_source : List (List ℕ) → SourceForm → Bool
+is_sum_source names (sources.Expr expr) = is_sum names expr
+
+-- a name that no variable has, and not that of the parameter
+abbrev pub is_free : List (List ℕ) → List ℕ → Bool
+is_free names word = not (is_among names word) && not (bytes_eq word (codes "args"))
+
+-- at least one item, each of which can be printed
+abbrev pub is_some_items : List (List ℕ) → List Expr → Bool
+is_some_items names [] = false
+is_some_items names (item ∷ items) = list_all (is_item names) (item ∷ items)
+
+-- a binding of a free name, or a print of some items
+abbrev pub is_line : List (List ℕ) → StmtForm → Bool
+is_line names (Let name source) = is_free names name.word && is_sum_source names source.form
+is_line names (Print items) = is_some_items names items
+
+-- the variables that are bound after the statement
+abbrev pub bound_after : List (List ℕ) → StmtForm → List (List ℕ)
+bound_after names (Let name source) = names ++ name.word ∷ []
+bound_after names (Print items) = names
+
+-- the statements of a body, at most 254 of which bind a variable
+abbrev pub is_body : List (List ℕ) → List Stmt → Bool
+is_body names [] = nat_le (length names) 254
+is_body names (stmt ∷ stmts) = is_line names stmt.form && is_body (bound_after names stmt.form) stmts
+
+-- ---- programs
+
+abbrev pub is_int_layer : TypeLayer → Bool
+is_int_layer TypeForm-F.Int = true
+is_int_layer _ = false
+
+-- the type of integers
+abbrev pub is_int : TypeText → Bool
+is_int ty = is_int_layer (out-TypeForm ty.form)
+
+abbrev pub is_unit_layer : TypeLayer → Bool
+is_unit_layer TypeForm-F.Unit = true
+is_unit_layer _ = false
+
+-- the type that has no value to tell
+abbrev pub is_unit : TypeText → Bool
+is_unit ty = is_unit_layer (out-TypeForm ty.form)
+
+abbrev pub is_int_list_layer : TypeLayer → Bool
+is_int_list_layer (TypeForm-F.List item) = is_int item
+is_int_list_layer _ = false
+
+-- the type of lists of integers
+abbrev pub is_int_list : TypeText → Bool
+is_int_list ty = is_int_list_layer (out-TypeForm ty.form)
+
+-- the one parameter of `main`
+abbrev pub is_args : List Param → Bool
+is_args (param ∷ []) = bytes_eq param.name.word (codes "args") && is_int_list param.ty
+is_args _ = false
+
+-- one method, `main`, of one parameter and no result, with a body in the thin form
+abbrev pub is_main : List Method → Bool
+is_main (method ∷ []) = bytes_eq method.name.word (codes "main") && is_args method.params && is_unit method.result && is_body [] method.body
+is_main _ = false
+
+-- no field at all
+abbrev pub is_empty : List Field → Bool
+is_empty [] = true
+is_empty _ = false
+
+-- one declaration, the active class `Main`, with no field and with `main` alone
+abbrev pub is_main_class : List Decl → Bool
+is_main_class (Active class ∷ []) = bytes_eq class.name.word (codes "Main") && is_empty class.fields && is_main class.methods
+is_main_class _ = false
+
+-- whether a program is in the thin form
+abbrev pub is_thin : Program → Bool
+is_thin program = is_main_class program.decls
+
+-- ---- what runs
+
+-- the statements of the first method, or none
+abbrev pub first_body : List Method → List Stmt
+first_body [] = []
+first_body (method ∷ methods) = method.body
+
+-- the statements of the first method of the first class, or none
+abbrev pub main_body : List Decl → List Stmt
+main_body [] = []
+main_body (Active class ∷ decls) = first_body class.methods
+
+-- the statements of `main`
+abbrev pub body_of : Program → List Stmt
+body_of program = main_body program.decls

@@ -1,0 +1,72 @@
+// The words that no declaration can have as its name.
+ghost use Rattle.std.specs.Prelude.{◌≡◌};
+ghost use Rattle.enc_ast.specs.Keywords.{is_keyword};
+
+const KEYWORDS: [&str; 59] = [
+    "active",
+    "and",
+    "append",
+    "as",
+    "at",
+    "atomic",
+    "await",
+    "bestow",
+    "Bestowed",
+    "bool",
+    "both",
+    "chain",
+    "choose",
+    "class",
+    "def",
+    "each",
+    "else",
+    "empty",
+    "extract",
+    "false",
+    "fun",
+    "Fut",
+    "future",
+    "get",
+    "if",
+    "int",
+    "into",
+    "isnull",
+    "join",
+    "len",
+    "let",
+    "lift",
+    "linear",
+    "List",
+    "local",
+    "new",
+    "nil",
+    "not",
+    "null",
+    "or",
+    "otherwise",
+    "pack",
+    "Par",
+    "print",
+    "prune",
+    "read",
+    "return",
+    "seq",
+    "split",
+    "subordinate",
+    "suspend",
+    "take",
+    "text",
+    "this",
+    "trait",
+    "true",
+    "unit",
+    "while",
+    "with",
+];
+
+/// Whether the language has the word for itself, so that nothing can be named by it.
+pub fn is_keyword(word: &str) -> bool
+    ensures { result ≡ is_keyword word.now }
+{
+    KEYWORDS.iter().any(|&keyword| keyword == word)
+}
