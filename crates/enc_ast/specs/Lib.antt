@@ -2,4 +2,5 @@ pub mod Keywords
 pub mod Lending
 pub mod Place
 pub mod Rules
+pub mod Scope
 pub mod Thin

@@ -26,40 +26,44 @@ use Rattle.enc_ast.specs.declared.exprs.ExprForm.TheOpen.{ExprForm-F}
 abbrev pub is_among : List (List ℕ) → List ℕ → Bool
 is_among names word = list_any (λ name. bytes_eq name word) names
 
--- one level of an expression, and one of a type
+-- one level of an expression
 abbrev pub Layer : Type 0
 Layer = ExprForm-F ExprForm Expr
 
+-- one level of a type
 abbrev pub TypeLayer : Type 0
 TypeLayer = TypeForm-F TypeForm TypeText
 
--- an integer, or a variable
+-- an integer or a variable, by its outer level
 abbrev pub is_part_layer : List (List ℕ) → Layer → Bool
 is_part_layer names (ExprForm-F.Int value) = true
 is_part_layer names (ExprForm-F.Name word) = is_among names word
 is_part_layer names (ExprForm-F.Text bytes) = false
 is_part_layer names (ExprForm-F.Binary operator left right) = false
 
+-- an integer, or a variable
 abbrev pub is_part : List (List ℕ) → Expr → Bool
 is_part names expr = is_part_layer names (out-ExprForm expr.form)
 
--- a part, or two with an operator between
+-- a part or two with an operator between, by its outer level
 abbrev pub is_sum_layer : List (List ℕ) → Layer → Bool
 is_sum_layer names (ExprForm-F.Int value) = true
 is_sum_layer names (ExprForm-F.Name word) = is_among names word
 is_sum_layer names (ExprForm-F.Text bytes) = false
 is_sum_layer names (ExprForm-F.Binary operator left right) = is_part names left && is_part names right
 
+-- a part, or two with an operator between
 abbrev pub is_sum : List (List ℕ) → Expr → Bool
 is_sum names expr = is_sum_layer names (out-ExprForm expr.form)
 
--- what can be printed: a sum, or a text
+-- a sum or a text, by its outer level
 abbrev pub is_item_layer : List (List ℕ) → Layer → Bool
 is_item_layer names (ExprForm-F.Text bytes) = true
 is_item_layer names (ExprForm-F.Int value) = true
 is_item_layer names (ExprForm-F.Name word) = is_among names word
 is_item_layer names (ExprForm-F.Binary operator left right) = is_part names left && is_part names right
 
+-- what can be printed: a sum, or a text
 abbrev pub is_item : List (List ℕ) → Expr → Bool
 is_item names expr = is_item_layer names (out-ExprForm expr.form)
 
@@ -95,6 +99,7 @@ is_body names (stmt ∷ stmts) = is_line names stmt.form && is_body (bound_after
 
 -- ---- programs
 
+-- the type of integers, by its outer level
 abbrev pub is_int_layer : TypeLayer → Bool
 is_int_layer TypeForm-F.Int = true
 is_int_layer _ = false
@@ -103,14 +108,16 @@ is_int_layer _ = false
 abbrev pub is_int : TypeText → Bool
 is_int ty = is_int_layer (out-TypeForm ty.form)
 
+-- the type of no result, by its outer level
 abbrev pub is_unit_layer : TypeLayer → Bool
 is_unit_layer TypeForm-F.Unit = true
 is_unit_layer _ = false
 
--- the type that has no value to tell
+-- the type of no result
 abbrev pub is_unit : TypeText → Bool
 is_unit ty = is_unit_layer (out-TypeForm ty.form)
 
+-- the type of lists of integers, by its outer level
 abbrev pub is_int_list_layer : TypeLayer → Bool
 is_int_list_layer (TypeForm-F.List item) = is_int item
 is_int_list_layer _ = false
