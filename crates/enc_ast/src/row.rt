@@ -1,7 +1,8 @@
 // Lists that contracts see as what they hold.
-ghost use Rattle.std.specs.Prelude.{◌≡◌, ◌-◌, ◌<◌, ◌^◌, [], ◌∷◌, ◌++◌, length, take, slice_get, slice_set, remove, ◌↔◌, IsTrue, MatchOption, OnOk, OnErr};
+ghost use Rattle.std.specs.Prelude.{◌≡◌, ◌-◌, ◌<◌, ◌^◌, [], ◌∷◌, ◌++◌, length, take, slice_get, slice_set, remove, ◌↔◌, IsTrue, MatchOption, OnOk, OnErr, OnSome};
 ghost use Rattle.std.specs.Option.{option_copied, option_copied_mut};
 ghost use Rattle.std.specs.Slice.Iter.{iter_rest};
+ghost use Rattle.std.specs.Iterator.Adapters.{IterYieldsInOrder, IterYieldsInReverse};
 ghost use Rattle.std.specs.Borrow.{sem};
 
 use std::alloc::{AllocError, Global};
@@ -76,7 +77,8 @@ impl<T> Row<T> {
 
     /// The item in a place, or `None` past the end.
     pub fn get(&self, at: usize) -> Option<&T>
-        ensures { option_copied result ≡ slice_get self.now at }
+        ensures value { option_copied result ≡ slice_get self.now at }
+        ensures within { OnSome result (at < length self.now) }
     {
         self.items.get(at)
     }
@@ -85,6 +87,7 @@ impl<T> Row<T> {
     pub fn get_mut(&mut self, at: usize) -> Option<&mut T>
         ensures* writes_back { sem 𝓛 (LendsItem T.row self.entry at result) }
         ensures value { option_copied_mut result ≡ slice_get self.old at }
+        ensures within { OnSome result (at < length self.old) }
     {
         self.items.get_mut(at)
     }
@@ -100,6 +103,11 @@ impl<T> Row<T> {
     pub fn iter(&self) -> Iter<'_, T>
         ensures rest { iter_rest result ≡ self.now }
         ensures len { length (iter_rest result) ≡ length self.now }
+        ensures bound { length (iter_rest result) < 2 ^ 64 }
+
+        // It gives them in order, or from the back.
+        ensures runs { IterYieldsInOrder T }
+        ensures runs_back { IterYieldsInReverse T }
     {
         self.items.iter()
     }
