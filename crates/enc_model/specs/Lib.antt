@@ -1,0 +1,7 @@
+pub mod Commit
+pub mod Eval
+pub mod Exec
+pub mod Laws
+pub mod Machine
+pub mod Phase
+pub mod Step

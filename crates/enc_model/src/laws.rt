@@ -1,0 +1,27 @@
+// What holds of every run of a program in the thin form.
+ghost use Rattle.std.specs.Prelude.{IsTrue};
+ghost use Rattle.enc_ast.specs.Thin.{is_thin};
+ghost use Rattle.enc_model.specs.Laws.{NeverStuck, NeverBlocked, StopsSoon};
+
+use enc_ast::Program;
+
+/// Each step of each run has a meaning. This is a law over the definitions: the call answers nothing,
+/// changes nothing and takes no memory.
+pub fn never_stuck(program: &Program)
+    requires { IsTrue (is_thin program.now) }
+    ensures { NeverStuck program.now }
+{}
+
+/// No run waits for what doesn't come. This is a law over the definitions: the call answers nothing,
+/// changes nothing and takes no memory.
+pub fn never_blocked(program: &Program)
+    requires { IsTrue (is_thin program.now) }
+    ensures { NeverBlocked program.now }
+{}
+
+/// Each run has few steps. This is a law over the definitions: the call answers nothing, changes
+/// nothing and takes no memory.
+pub fn stops_soon(program: &Program)
+    requires { IsTrue (is_thin program.now) }
+    ensures { StopsSoon program.now }
+{}

@@ -1,0 +1,20 @@
+//! What a program does: its configurations, its steps one at a time, and a machine that makes them.
+#![tactic(auto)]
+
+mod commit;
+mod config;
+mod decide;
+mod eval;
+mod laws;
+mod moves;
+mod plain;
+mod schedule;
+mod steps;
+mod values;
+
+pub use config::{Actor, Cell, Config, Frame, Message, Task};
+pub use laws::{never_blocked, never_stuck, stops_soon};
+pub use moves::{Got, Move};
+pub use plain::{Plain, StepFail};
+pub use schedule::{Pair, Phase, Schedule, Stepped};
+pub use values::{Locals, TrapKind, Value};
