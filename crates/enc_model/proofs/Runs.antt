@@ -1,9 +1,9 @@
 -- Runs, and schedules that go on by one step.
-use Rattle.std.proofs.Common.{◌≡◌, ◌+◌, ◌-◌, ◌∙◌, ◌<◌, ◌^◌, ℕ, zero, suc, Bool, true, false, List, [], ◌∷◌, ◌++◌, Some, None, refl, sym, ap, subst, append_assoc, length, length-append, arith}
+use Rattle.std.proofs.Common.{◌≡◌, ◌+◌, ◌-◌, ◌∙◌, ◌<◌, ◌^◌, ℕ, zero, suc, Bool, true, false, List, [], ◌∷◌, ◌++◌, Some, None, refl, sym, ap, subst, append_assoc, add-one, length, length-append, arith}
 use Rattle.std.specs.Prelude.{replicate, fold, IsTrue, nat_le}
 use Rattle.std.specs.List.{list_all}
-use Rattle.std.proofs.lemmas.List.Sums.{fold-append, sum_by-append, sum_by-cons}
-use Rattle.std.proofs.lemmas.List.{length-replicate}
+use Rattle.std.proofs.lemmas.List.Sums.{fold-append, sum_by_push, sum_by-cons}
+use Rattle.std.proofs.lemmas.List.{length-replicate, append-nil}
 use Rattle.std.proofs.lemmas.List.Folds.{fold_stays, list_all-append}
 use Rattle.std.proofs.lemmas.Bool.{false≢true}
 use Rattle.enc_ast.specs.declared.Program.{Program}
@@ -48,6 +48,12 @@ looks-after program n c (a ∷ actors) end thin looks e =
 pub looks-run : (program : Program) (actors : List ℕ) (c : Config) → IsTrue (is_thin program) → run program actors ≡ Some c → Looks (body_of program) (length actors) c
 looks-run program actors c thin e =
     subst (λ m. Looks (body_of program) m c) (omega arith) (looks-after program 0 start actors c (thin-body program thin) (begins 0 refl) e)
+
+-- a run that goes on by one step leads on
+pub run-push : (program : Program) (actors : List ℕ) (c next : Config) (a : ℕ) (kind : Stepped) → run program actors ≡ Some c → step_of program c a ≡ Next next kind → run program (actors ++ a ∷ []) ≡ Some next
+run-push program actors c next a kind e s =
+    fold-append (after_step program) (Some start) actors (a ∷ [])
+    ∙ (ap (λ from. after_step program from a) e ∙ ap next_config s)
 
 -- ---- the laws
 
@@ -113,7 +119,7 @@ valid-step program c next a kind valid e = record {
   thin = valid.thin;
   reached = record {
     actors = valid.reached.actors ++ a ∷ [];
-    reached = fold-append (after_step program) (Some start) valid.reached.actors (a ∷ []) ∙ (ap (λ from. after_step program from a) valid.reached.reached ∙ ap next_config e);
+    reached = run-push program valid.reached.actors c next a kind valid.reached.reached e;
   };
 }
 
@@ -121,32 +127,55 @@ pub ruleset machines = (valid-known, valid-few, valid-start, valid-step)
 
 -- ---- schedules
 
--- one step of an actor
+-- so many steps of an actor, and one
+abbrev pub many : ℕ → ℕ → Pair
+many a k = record { actor = a; steps = k }
+
 abbrev pub once : ℕ → Pair
-once a = record { actor = a; steps = 1 }
-
-pub picks-push : (pairs : List Pair) (a : ℕ) → picks (pairs ++ once a ∷ []) ≡ picks pairs ++ a ∷ []
-picks-push [] a = refl
-picks-push (pair ∷ pairs) a = rw (picks-push pairs a) (sym (append_assoc (replicate pair.steps pair.actor) (picks pairs) (a ∷ [])))
-
-pub steps_of-push : (pairs : List Pair) (a : ℕ) → steps_of (pairs ++ once a ∷ []) ≡ steps_of pairs + 1
-steps_of-push pairs a = sum_by-append (λ pair. pair.steps) pairs (once a ∷ [])
+once a = many a 1
 
 -- a step for each pick
 pub length-picks : (pairs : List Pair) → length (picks pairs) ≡ steps_of pairs
 length-picks [] = refl
 length-picks (pair ∷ pairs) = length-append (replicate pair.steps pair.actor) (picks pairs) ∙ (rw (length-replicate pair.steps pair.actor, length-picks pairs) refl ∙ sym (sum_by-cons (λ pair. pair.steps) pair pairs))
 
--- from a configuration to which the schedule leads, one more step leads on
-pub exec-push : (program : Program) (pairs : List Pair) (c next : Config) (a : ℕ) (kind : Stepped) → exec program pairs ≡ Some c → step_of program c a ≡ Next next kind → exec program (pairs ++ once a ∷ []) ≡ Some next
-exec-push program pairs c next a kind e s =
-    ap (fold (after_step program) (Some start)) (picks-push pairs a)
-    ∙ (fold-append (after_step program) (Some start) (picks pairs) (a ∷ [])
-    ∙ (ap (λ from. after_step program from a) e ∙ ap next_config s))
+picks-many : (pairs : List Pair) (a k : ℕ) → picks (pairs ++ many a k ∷ []) ≡ picks pairs ++ replicate k a
+picks-many [] a k = append-nil (replicate k a)
+picks-many (pair ∷ pairs) a k = rw (picks-many pairs a k) (sym (append_assoc (replicate pair.steps pair.actor) (picks pairs) (replicate k a)))
 
--- and such a schedule has a step in each pair
+replicate-push : (k a : ℕ) → replicate (suc k) a ≡ replicate k a ++ a ∷ []
+replicate-push zero a = refl
+replicate-push (suc k) a = ap (λ actors. a ∷ actors) (replicate-push k a)
+
+pub picks-push : (pairs : List Pair) (a : ℕ) → picks (pairs ++ once a ∷ []) ≡ picks pairs ++ a ∷ []
+picks-push pairs a = picks-many pairs a 1
+
+pub picks-more : (pairs : List Pair) (a k : ℕ) → picks (pairs ++ many a (k + 1) ∷ []) ≡ picks (pairs ++ many a k ∷ []) ++ a ∷ []
+picks-more pairs a k =
+    let next : replicate (k + 1) a ≡ replicate k a ++ a ∷ [] = rw add-one (replicate-push k a) in
+    picks-many pairs a (k + 1) ∙ (ap (λ actors. picks pairs ++ actors) next
+    ∙ (sym (append_assoc (picks pairs) (replicate k a) (a ∷ [])) ∙ ap (λ actors. actors ++ a ∷ []) (sym (picks-many pairs a k))))
+
+pub steps_of-push : (pairs : List Pair) (a : ℕ) → steps_of (pairs ++ once a ∷ []) ≡ steps_of pairs + 1
+steps_of-push pairs a = sum_by_push (λ pair. pair.steps) pairs (once a)
+
+pub steps_of-more : (pairs : List Pair) (a k : ℕ) → steps_of (pairs ++ many a (k + 1) ∷ []) ≡ steps_of (pairs ++ many a k ∷ []) + 1
+steps_of-more pairs a k = omega (arith, sum_by_push (λ pair. pair.steps) pairs (many a (k + 1)), sum_by_push (λ pair. pair.steps) pairs (many a k))
+
+-- from a configuration to which the schedule leads, a step that another pair makes leads on
+pub exec-push : (program : Program) (pairs : List Pair) (c next : Config) (a : ℕ) (kind : Stepped) → exec program pairs ≡ Some c → step_of program c a ≡ Next next kind → exec program (pairs ++ once a ∷ []) ≡ Some next
+exec-push program pairs c next a kind e s = ap (run program) (picks-push pairs a) ∙ run-push program (picks pairs) c next a kind e s
+
+-- and so does one more step of the last pair
+pub exec-more : (program : Program) (pairs : List Pair) (c next : Config) (a k : ℕ) (kind : Stepped) → exec program (pairs ++ many a k ∷ []) ≡ Some c → step_of program c a ≡ Next next kind → exec program (pairs ++ many a (k + 1) ∷ []) ≡ Some next
+exec-more program pairs c next a k kind e s = ap (run program) (picks-more pairs a k) ∙ run-push program (picks (pairs ++ many a k ∷ [])) c next a kind e s
+
+-- each pair still has a step
+pub some_steps-many : (pairs : List Pair) (a k : ℕ) → list_all (λ pair. nat_le 1 pair.steps) pairs ≡ true → nat_le 1 k ≡ true → list_all (λ pair. nat_le 1 pair.steps) (pairs ++ many a k ∷ []) ≡ true
+some_steps-many pairs a k e some = list_all-append (λ pair. nat_le 1 pair.steps) pairs (many a k ∷ []) ∙ rw (e, some) refl
+
 pub some_steps-push : (pairs : List Pair) (a : ℕ) → list_all (λ pair. nat_le 1 pair.steps) pairs ≡ true → list_all (λ pair. nat_le 1 pair.steps) (pairs ++ once a ∷ []) ≡ true
-some_steps-push pairs a e = list_all-append (λ pair. nat_le 1 pair.steps) pairs (once a ∷ []) ∙ rw e refl
+some_steps-push pairs a e = some_steps-many pairs a 1 e refl
 
 -- ---- ready actors
 

@@ -10,10 +10,12 @@ use Rattle.enc_model.specs.Step.{Outcome, NotReady, commit, take_step}
 abbrev pub IsBusy : Config → ℕ → Type 0
 IsBusy c a = IsSomeAnd (slice_get c.actors a) (λ actor. IsSome actor.task)
 
+-- by what the actor is doing
 abbrev pub commit_task : Config → ℕ → Move → Actor → Option Task → Outcome
 commit_task c a asked actor None = NotReady
 commit_task c a asked actor (Some task) = commit c a actor task asked
 
+-- by whether the actor is there
 abbrev pub commit_actor : Config → ℕ → Move → Option Actor → Outcome
 commit_actor c a asked None = NotReady
 commit_actor c a asked (Some actor) = commit_task c a asked actor actor.task
@@ -22,6 +24,7 @@ commit_actor c a asked (Some actor) = commit_task c a asked actor actor.task
 abbrev pub commit_at : Config → ℕ → Move → Outcome
 commit_at c a asked = commit_actor c a asked (slice_get c.actors a)
 
+-- by whether the actor is there
 abbrev pub take_actor : Config → ℕ → Option Actor → Outcome
 take_actor c a None = NotReady
 take_actor c a (Some actor) = take_step c a actor actor.mailbox

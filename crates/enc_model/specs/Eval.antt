@@ -17,6 +17,7 @@ use Rattle.enc_model.specs.declared.moves.Got.TheVariants.{Gives, Traps, Nothing
 abbrev pub Local : Type 0
 Local = List ℕ × Option Value
 
+-- what a variable gives that has this value, or none
 abbrev pub got_of : Option Value → Got
 got_of None = Nothing
 got_of (Some value) = Gives value
@@ -28,6 +29,7 @@ found name (local ∷ locals) = cond (bytes_eq local.0 name) (got_of local.1) (f
 
 -- ---- operators
 
+-- whether 64 signed bits are enough for the number
 abbrev pub has_64_bits : ℤ → Bool
 has_64_bits (pos n) = nat_lt n (2 ^ 63)
 has_64_bits (negsuc n) = nat_lt n (2 ^ 63)
@@ -36,11 +38,13 @@ has_64_bits (negsuc n) = nat_lt n (2 ^ 63)
 abbrev pub fit : ℤ → Got
 fit z = cond (has_64_bits z) (Gives (values.Int z)) (Traps Overflow)
 
+-- what an operator makes of two numbers
 abbrev pub result_of : Operator → ℤ → ℤ → ℤ
 result_of operators.Add x y = x +ℤ y
 result_of operators.Subtract x y = x -ℤ y
 result_of operators.Multiply x y = x *ℤ y
 
+-- what an operator gives of two values, each of which must be a number
 abbrev pub operated : Operator → Value → Value → Got
 operated operator (values.Int x) (values.Int y) = fit (result_of operator x y)
 operated operator _ _ = Nothing

@@ -20,6 +20,7 @@ picks (pair ∷ pairs) = replicate pair.steps pair.actor ++ picks pairs
 abbrev pub steps_of : List Pair → ℕ
 steps_of pairs = sum_by (λ pair. pair.steps) pairs
 
+-- the configuration to which a step leads, where there is one
 abbrev pub next_config : Outcome → Option Config
 next_config (Next c kind) = Some c
 next_config NotReady = None

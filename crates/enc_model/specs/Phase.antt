@@ -11,6 +11,7 @@ use Rattle.enc_model.specs.declared.values.TrapKind.{TrapKind}
 use Rattle.enc_model.specs.declared.values.TrapKind.TheVariants.{Overflow}
 use Rattle.enc_model.specs.Step.{Outcome, Next, NotReady, Stuck, step_of}
 
+-- the step can be made
 abbrev pub is_next : Outcome → Bool
 is_next (Next c kind) = true
 is_next NotReady = false
@@ -29,6 +30,7 @@ first_ready program c a (suc n) = if is_ready program c a then Some a else first
 abbrev pub least_ready : Program → Config → Option ℕ
 least_ready program c = first_ready program c 0 (length c.actors)
 
+-- the actor has stopped for good
 abbrev pub has_trapped : Actor → Bool
 has_trapped actor = is_some actor.trap
 

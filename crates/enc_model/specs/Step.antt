@@ -45,6 +45,7 @@ bound span name (Gives value) = Bind name value
 bound span name (Traps kind) = Fault kind span
 bound span name Nothing = Lost
 
+-- a new variable gets the value of the expression
 abbrev pub decide_source : Span → List Local → List ℕ → SourceForm → Move
 decide_source span locals name (sources.Expr expr) = bound span name (eval expr locals)
 
@@ -70,6 +71,7 @@ abbrev pub decide_items : Span → List Local → List Expr → List ℕ → Mov
 decide_items span locals [] line = Say (line ++ 10 ∷ [])
 decide_items span locals (item ∷ items) line = says span (decide_items span locals items) line (eval item locals)
 
+-- what a statement asks for
 abbrev pub decide_form : Span → List Local → StmtForm → Move
 decide_form span locals (Let name source) = decide_source span locals name.word source.form
 decide_form span locals (Print items) = decide_items span locals items []
@@ -85,6 +87,7 @@ decide program frame = decide_at frame.locals.pairs (slice_get (body_of program)
 
 -- ---- what is done about it
 
+-- the configuration with another state of this actor
 abbrev pub with_actor : Config → ℕ → Actor → Config
 with_actor c a actor = record c { actors = slice_set c.actors a actor }
 
@@ -132,6 +135,7 @@ abbrev pub trap_step : Program → Config → ℕ → Actor → Option (TrapKind
 trap_step program c a actor None = task_step program c a actor actor.task
 trap_step program c a actor (Some trap) = NotReady
 
+-- an actor that isn't there makes no step
 abbrev pub actor_step : Program → Config → ℕ → Option Actor → Outcome
 actor_step program c a None = NotReady
 actor_step program c a (Some actor) = trap_step program c a actor actor.trap

@@ -1,7 +1,7 @@
 // What a frame asks for is done, in place.
-ghost use Rattle.std.specs.Prelude.{◌≡◌, ◌+◌, ◌++◌, [], ◌∷◌, length, IfOk, OnOk, OnErr, IfSome, IsSome, None, Some, slice_get, slice_set};
+ghost use Rattle.std.specs.Prelude.{◌≡◌, ◌+◌, ◌++◌, [], ◌∷◌, IfOk, OnOk, OnErr, IfSome, IsSome, None, Some, slice_set};
 ghost use Rattle.enc_model.specs.Commit.{IsBusy, commit_at};
-ghost use Rattle.enc_model.specs.Step.{Outcome, Next, Stuck, behind, in_frame};
+ghost use Rattle.enc_model.specs.Step.{Next, Stuck, behind, in_frame};
 ghost use Rattle.enc_model.specs.declared.config.Cell.TheVariants.{Full};
 ghost use Rattle.enc_model.specs.declared.values.Value.TheVariants.{Unit};
 ghost use Rattle.enc_model.specs.declared.moves.Move.TheVariants.{Bind, Say, Leave, Fault};

@@ -4,7 +4,7 @@ ghost use Rattle.enc_ast.specs.Thin.{is_thin};
 ghost use Rattle.enc_model.specs.Exec.{start};
 ghost use Rattle.enc_model.specs.Machine.{Machine};
 ghost use Rattle.enc_model.specs.Phase.{least_ready, phase_of};
-ghost use Rattle.enc_model.specs.Step.{Outcome, Next, NotReady, step_of};
+ghost use Rattle.enc_model.specs.Step.{Next, NotReady, step_of};
 ghost use Rattle.enc_model.specs.declared.plain.StepFail.TheVariants.{Memory};
 
 use crate::steps::{is_ready, make_step};

@@ -1,14 +1,14 @@
 // One step of one actor.
 ghost use Rattle.std.specs.Prelude.{◌≡◌, IfOk, OnErr, IsErrOf, IsSomeAnd, None, slice_get};
-ghost use Rattle.enc_model.specs.Step.{Outcome, Next, NotReady, Stuck, step_of, take_step};
+ghost use Rattle.enc_model.specs.Step.{Next, NotReady, Stuck, step_of};
 ghost use Rattle.enc_model.specs.Phase.{is_ready as is_ready_by};
 ghost use Rattle.enc_model.specs.Commit.{take_at};
 
 use crate::commit::commit;
 use crate::decide::decide;
-use crate::{Config, Frame, Locals, Move, StepFail, Stepped, Task};
+use crate::{Config, Frame, Locals, StepFail, Stepped, Task};
 use enc_ast::{Program, Row};
-use std::alloc::{AllocError, Global};
+use std::alloc::Global;
 
 /// Whether the actor's next step can be made. None is at a step without a meaning.
 pub fn is_ready(program: &Program, config: &Config, number: usize) -> bool
