@@ -1,4 +1,5 @@
-//! What a program does: its configurations, its steps one at a time, and a machine that makes them.
+//! What a program does: its configurations, its steps one at a time, a machine that makes
+//! them, and what holds of every run.
 #![tactic(auto)]
 
 mod commit;

@@ -17,8 +17,10 @@ use thiserror::Error;
 /// Why no step was made.
 #[derive(Debug, Drop, Error)]
 pub enum StepFail {
+    /// The actor has trapped, has nothing to do or isn't there.
     #[error("the actor is not ready")]
     NotReady,
+    /// There is no room, or a count would pass its type.
     #[error("out of memory")]
     Memory,
 }
@@ -110,8 +112,8 @@ impl Plain {
         config
     }
 
-    /// Makes the next step of an actor. At an error the machine is as it was: at `NotReady` the
-    /// actor has trapped, has nothing to do or isn't there, and at `Memory` the step can be tried again.
+    /// Makes the next step of an actor, and says whether it touched that actor alone. An error
+    /// leaves the machine as it was, and after `Memory` the step can be tried again.
     #[tactic(auto, using(crate::proofs::Runs::machines))]
     pub fn step(&mut self, actor: u32) -> Result<Stepped, StepFail>
         ensures program { self.new.program ≡ self.old.program }

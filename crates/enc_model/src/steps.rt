@@ -10,7 +10,7 @@ use crate::{Config, Frame, Locals, StepFail, Stepped, Task};
 use enc_ast::{Program, Row};
 use std::alloc::Global;
 
-/// Whether the actor's next step can be made. None is at a step without a meaning.
+/// Whether the actor's next step can be made.
 pub fn is_ready(program: &Program, config: &Config, number: usize) -> bool
     requires { step_of program.now config.now number ≡ Stuck → ⊥ }
     ensures { result ≡ is_ready_by program.now config.now number }
