@@ -1,0 +1,10 @@
+pub mod ClassLaws
+pub mod ExprLaws
+pub mod Laws
+pub mod LineLaws
+pub mod Loops
+pub mod NextLaws
+pub mod Texts
+pub mod OneProgram
+pub mod TokenLaws
+pub mod QuoteLaws
