@@ -8,6 +8,7 @@ use Rattle.enc_ast.specs.declared.Rule.TheVariants as rules
 use Rattle.enc_ast.specs.declared.Span.{Span}
 use Rattle.enc_parse.specs.Spells.{Spells}
 
+-- all of a text of this size
 abbrev pub whole : ℕ → Span
 whole size = record { start = 0; end = size }
 

@@ -28,9 +28,11 @@ Stretch = List ℕ → List ℕ → Type 0
 pub record IsNext (lexeme : Lexeme) (a b : List ℕ) : Type 0 where
   pub stands : Stands lexeme (skip_blanks a) b
 
+-- this word stands next
 abbrev pub IsWord : List ℕ → Stretch
 IsWord word = IsNext (Word word)
 
+-- this symbol stands next
 abbrev pub IsSymbol : List ℕ → Stretch
 IsSymbol symbol = IsNext (Symbol symbol)
 
@@ -44,12 +46,15 @@ pub record IsName (word a b : List ℕ) : Type 0 where
 abbrev pub between : ℕ → List ℕ → List ℕ → Span
 between size a b = record { start = size - length (skip_blanks a); end = size - length b }
 
+-- an expression that stands between two places
 abbrev pub expr_of : ℕ → ExprForm → List ℕ → List ℕ → Expr
 expr_of size form a b = record { form = form; span = between size a b }
 
+-- a name that stands between two places
 abbrev pub name_of : ℕ → List ℕ → List ℕ → List ℕ → Name
 name_of size word a b = record { word = word; span = between size a b }
 
+-- how an operator is written
 abbrev pub symbol_of : Operator → List ℕ
 symbol_of operators.Add = codes "+"
 symbol_of operators.Subtract = codes "-"

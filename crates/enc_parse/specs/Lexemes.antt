@@ -5,12 +5,15 @@ use Rattle.std.specs.Str.{bytes_eq}
 
 -- ---- bytes
 
+-- a space, a tab or a line end
 abbrev pub is_blank : ℕ → Bool
 is_blank byte = byte == 32 || byte == 9 || byte == 13 || byte == 10
 
+-- the byte is none below or above these
 abbrev pub is_between : ℕ → ℕ → ℕ → Bool
 is_between low high byte = nat_le low byte && nat_le byte high
 
+-- a decimal digit
 abbrev pub is_digit : ℕ → Bool
 is_digit byte = is_between 48 57 byte
 
@@ -35,6 +38,7 @@ begins_with test (byte ∷ text) = test byte
 
 -- ---- tokens
 
+-- a token of a text
 pub data Lexeme : Type 0 where
   -- a name or a keyword, by its bytes
   Word : List ℕ → Lexeme
@@ -76,12 +80,14 @@ pub data Quotes : List ℕ → List ℕ → Type 0 where
   plain : {byte : ℕ} {raw bytes : List ℕ} → IsTrue (is_plain byte) → Quotes raw bytes → Quotes (byte ∷ raw) (byte ∷ bytes)
   escape : {letter byte : ℕ} {raw bytes : List ℕ} → Escapes letter byte → Quotes raw bytes → Quotes (92 ∷ letter ∷ raw) (byte ∷ bytes)
 
+-- the symbols, by their bytes
 abbrev pub symbols : List (List ℕ)
 symbols =
     codes "{" ∷ codes "}" ∷ codes "(" ∷ codes ")" ∷ codes "[" ∷ codes "]" ∷ codes ":" ∷ codes ";" ∷ codes "," ∷ codes "." ∷
     codes "!" ∷ codes "=" ∷ codes "==" ∷ codes "!=" ∷ codes "<" ∷ codes "<=" ∷ codes ">" ∷ codes ">=" ∷
     codes "+" ∷ codes "-" ∷ codes "*" ∷ codes "/" ∷ codes "%" ∷ []
 
+-- one of the symbols
 abbrev pub is_symbol : List ℕ → Bool
 is_symbol bytes = list_any (λ symbol. bytes_eq symbol bytes) symbols
 

@@ -1,5 +1,6 @@
 -- The readings of the grammar, as functions of a spot.
-use Rattle.std.specs.Prelude.{◌≡◌, ℕ, Bool, true, false, List, [], ◌∷◌, length, codes, Option, Some, None, Result, Ok, Err, ⊤}
+use Rattle.std.specs.Prelude.{◌≡◌, ℕ, Bool, true, false, List, [], ◌∷◌, length, codes, Option, Some, None, Result, Ok, Err, ⊤, if◌then◌else◌}
+use Rattle.enc_ast.specs.Thin.{is_thin}
 use Rattle.enc_ast.specs.declared.ActiveDecl.{ActiveDecl}
 use Rattle.enc_ast.specs.declared.Decl.TheVariants.{Active}
 use Rattle.enc_ast.specs.declared.Expr.{Expr}
@@ -26,9 +27,11 @@ use Rattle.enc_parse.specs.Steps.{Spot, spot, Outcome, Got, Wrong, Parser, and_t
 
 -- ---- expressions
 
+-- an expression at its span
 abbrev pub expr_with : ExprForm × Span → Expr
 expr_with x = record { form = x.0; span = x.1 }
 
+-- what a part computes
 unfoldable pub part_form : Parser ExprForm
 part_form = pick (sees is_digit) (exprs.Int <$> number) (exprs.Name <$> name)
 
@@ -53,6 +56,7 @@ text = expr_with <$> spanned (exprs.Text <$> quoted)
 unfoldable pub item : Parser Expr
 item = pick (sees (is_byte 34)) text sum
 
+-- an item, if a comma was taken
 abbrev pub item_if : Bool → Parser (Option Expr)
 item_if true = Some <$> item
 item_if false = λ a. Got None a
@@ -71,6 +75,7 @@ items = both (λ x xs. x ∷ xs) item (many next_item)
 unfoldable pub variable : Parser Name
 variable = (λ x. record { word = x.0; span = x.1 }) <$> spanned name
 
+-- a sum as what a variable is bound to
 unfoldable pub source : Parser Source
 source = (λ x. record { form = sources.Expr x.0; span = x.1 }) <$> spanned sum
 
@@ -82,6 +87,7 @@ let_form = (λ x. Let x.0 x.1) <$> (word (codes "let") ▹ (variable ⊗ (symbol
 unfoldable pub print_form : Parser StmtForm
 print_form = Print <$> (word (codes "print") ▹ (items ◃ symbol 59))
 
+-- what a line does
 unfoldable pub line_form : Parser StmtForm
 line_form = pick (sees_word (codes "let")) let_form print_form
 
@@ -103,6 +109,7 @@ lines = many next_line
 unfoldable pub named : List ℕ → Parser Name
 named w = (λ x. record { word = w; span = x.1 }) <$> spanned (word w)
 
+-- a type at its span
 abbrev pub type_with : TypeForm × Span → TypeText
 type_with x = record { form = x.0; span = x.1 }
 
@@ -139,13 +146,16 @@ unfoldable pub main_class : Parser ActiveDecl
 main_class = (λ x. record { name = x.0.0; fields = []; methods = x.0.1 ∷ []; span = x.1 })
     <$> spanned (word (codes "active") ▹ (word (codes "class") ▹ (named (codes "Main") ⊗ (symbol 123 ▹ (main ◃ symbol 125)))))
 
+-- the program of a class, in a text of this size
 abbrev pub program_of : ℕ → ActiveDecl → Program
 program_of size class = record { decls = Active class ∷ []; span = record { start = 0; end = size } }
 
+-- the program of a class, if nothing is left
 abbrev pub program_if : ℕ → ActiveDecl → List ℕ → Option Program
 program_if size class [] = Some (program_of size class)
 program_if size class (byte ∷ rest) = None
 
+-- the program of the class that was read
 abbrev pub program_in : ℕ → Outcome ActiveDecl → Option Program
 program_in size (Got class b) = program_if size class (skip_blanks b.rest)
 program_in size Wrong = None
@@ -153,6 +163,15 @@ program_in size Wrong = None
 -- the whole text is a program
 unfoldable pub program : List ℕ → Option Program
 program text = program_in (length text) (main_class (spot (length text) text))
+
+-- the program, if it is in the thin form
+abbrev pub thin_only : Option Program → Option Program
+thin_only None = None
+thin_only (Some program) = if is_thin program then Some program else None
+
+-- the thin program that the whole text is
+unfoldable pub thin_program : List ℕ → Option Program
+thin_program text = thin_only (program text)
 
 -- What a function returned is the program, unless memory ran out.
 abbrev pub Gives : Option Program → Result Program ParseError → Type 0

@@ -14,6 +14,7 @@ pub record Spot : Type 0 where
   pub size : ℕ
   pub rest : List ℕ
 
+-- the place in a text of this size
 abbrev pub spot : ℕ → List ℕ → Spot
 spot size rest = record { size = size; rest = rest }
 
@@ -22,6 +23,7 @@ pub data Outcome (A : Type 0) : Type 0 where
   Got : A → Spot → Outcome A
   Wrong : Outcome A
 
+-- a reading, from the spot where it begins
 abbrev pub Parser : Type 0 → Type 0
 Parser A = Spot → Outcome A
 
@@ -37,17 +39,21 @@ Reads outcome (Err errors.Memory) new = ⊤
 abbrev pub sees : (ℕ → Bool) → Spot → Bool
 sees test a = begins_with test (skip_blanks a.rest)
 
+-- this byte
 abbrev pub is_byte : ℕ → ℕ → Bool
 is_byte byte next = next == byte
 
+-- no byte
 abbrev pub is_nothing : List ℕ → Bool
 is_nothing [] = true
 is_nothing (byte ∷ rest) = false
 
+-- what was found in a text of this size
 abbrev pub found_in : {A : Type 0} → ℕ → Found A → Outcome A
 found_in size None = Wrong
 found_in size (Some found) = Got found.0 (spot size found.1)
 
+-- the word that was found, if it is this one
 abbrev pub word_in : ℕ → List ℕ → Found (List ℕ) → Outcome (Unit {0})
 word_in size word None = Wrong
 word_in size word (Some found) = if bytes_eq found.0 word then Got tt (spot size found.1) else Wrong
@@ -56,6 +62,7 @@ word_in size word (Some found) = if bytes_eq found.0 word then Got tt (spot size
 unfoldable pub word : List ℕ → Parser (Unit {0})
 word w = λ a. word_in a.size w (word_at (skip_blanks a.rest))
 
+-- the word that was found is this one
 abbrev pub sees_word_in : List ℕ → Found (List ℕ) → Bool
 sees_word_in w None = false
 sees_word_in w (Some found) = bytes_eq found.0 w
@@ -68,6 +75,7 @@ sees_word w a = sees_word_in w (word_at (skip_blanks a.rest))
 abbrev pub is_free : List ℕ → Bool
 is_free word = not (is_keyword word) && nat_le (length word) 255
 
+-- the word that was found, if a variable can have it as its name
 abbrev pub name_in : ℕ → Found (List ℕ) → Outcome (List ℕ)
 name_in size None = Wrong
 name_in size (Some found) = if is_free found.0 then Got found.0 (spot size found.1) else Wrong
@@ -84,6 +92,7 @@ number = λ a. found_in a.size (number_at (skip_blanks a.rest))
 unfoldable pub quoted : Parser (List ℕ)
 quoted = λ a. found_in a.size (quoted_at (skip_blanks a.rest))
 
+-- the place behind a symbol, if there is one
 abbrev pub symbol_in : ℕ → Option (List ℕ) → Outcome (Unit {0})
 symbol_in size None = Wrong
 symbol_in size (Some after) = Got tt (spot size after)
@@ -92,6 +101,7 @@ symbol_in size (Some after) = Got tt (spot size after)
 unfoldable pub symbol : ℕ → Parser (Unit {0})
 symbol s = λ a. symbol_in a.size (symbol_at s (skip_blanks a.rest))
 
+-- the place behind a symbol, or else the spot as it was
 abbrev pub taken_in : Spot → Option (List ℕ) → Outcome Bool
 taken_in a None = Got false a
 taken_in a (Some after) = Got true (spot a.size after)
@@ -100,6 +110,7 @@ taken_in a (Some after) = Got true (spot a.size after)
 unfoldable pub takes : ℕ → Parser Bool
 takes s = λ a. taken_in a (symbol_at s (skip_blanks a.rest))
 
+-- the operator that was found, or none and the spot as it was
 abbrev pub operator_in : Spot → Found Operator → Outcome (Option Operator)
 operator_in a None = Got None a
 operator_in a (Some found) = Got (Some found.0) (spot a.size found.1)
@@ -110,6 +121,7 @@ operator = λ a. operator_in a (operator_at (skip_blanks a.rest))
 
 -- ---- chains
 
+-- what goes on with what was read
 abbrev pub and_then : {A B : Type 0} → Outcome A → (A → Parser B) → Outcome B
 and_then (Got x b) f = f x b
 and_then Wrong f = Wrong
@@ -118,22 +130,27 @@ and_then Wrong f = Wrong
 abbrev pub both : {A B C : Type 0} → (A → B → C) → Parser A → Parser B → Parser C
 both g p q = λ a. and_then (p a) (λ x b. and_then (q b) (λ y c. Got (g x y) c))
 
+-- made of what was read
 infixr 11 ◌<$>◌
 abbrev pub ◌<$>◌ : {A B : Type 0} → (A → B) → Parser A → Parser B
 f <$> p = λ a. and_then (p a) (λ x b. Got (f x) b)
 
+-- behind the first part
 infixr 12 ◌▹◌
 abbrev pub ◌▹◌ : {A : Type 0} → Parser (Unit {0}) → Parser A → Parser A
 p ▹ q = both (λ _ y. y) p q
 
+-- before the second part
 infixl 13 ◌◃◌
 abbrev pub ◌◃◌ : {A : Type 0} → Parser A → Parser (Unit {0}) → Parser A
 p ◃ q = both (λ x _. x) p q
 
+-- the pair of both parts
 infixr 12 ◌⊗◌
 abbrev pub ◌⊗◌ : {A B : Type 0} → Parser A → Parser B → Parser (A × B)
 p ⊗ q = both (λ x y. (x, y)) p q
 
+-- the first reading where the test holds, and the second one elsewhere
 abbrev pub pick : {A : Type 0} → (Spot → Bool) → Parser A → Parser A → Parser A
 pick t p q = λ a. if t a then p a else q a
 
@@ -141,6 +158,7 @@ pick t p q = λ a. if t a then p a else q a
 abbrev pub start_of : Spot → ℕ
 start_of a = a.size - length (skip_blanks a.rest)
 
+-- from the first token at one spot to what was read before the other
 abbrev pub extent : Spot → Spot → Span
 extent a b = record { start = start_of a; end = b.size - length b.rest }
 

@@ -16,6 +16,7 @@ pub fn skip_blanks(text: &[u8]) -> &[u8]
     &text[blanks_len(text)..]
 }
 
+/// The first byte.
 pub fn first_of(text: &[u8]) -> Option<u8>
     ensures { result ≡ scan.first_of text.now }
 {

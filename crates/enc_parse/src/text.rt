@@ -49,9 +49,22 @@ fn whole_program(alloc: Global, text: &[u8]) -> Result<Program, ParseError>
     })
 }
 
-/// The program that the text spells, or the text's first failure. It keeps its own copy of each word and quoted text.
-/// A text of more than 1,048,576 bytes is refused by `Rule::Size` at its start, and one that spells nothing by
-/// `Rule::Stage` as a whole.
+/// The program of the text, where its variables are bound as they have to be.
+#[tactic(auto, unfolding(crate::specs::Reading::thin_program))]
+fn thin_program(alloc: Global, text: &[u8]) -> Result<Program, ParseError>
+    requires { length text.now < 2 ^ 32 }
+    ensures { Gives (reading.thin_program text.now) result }
+{
+    let program = whole_program(alloc, text)?;
+    if !is_thin(&program) {
+        return Err(ParseError::Form);
+    }
+    Ok(program)
+}
+
+/// Reads a whole text for a caller that goes on with its program, which keeps copies of its own of words and quoted
+/// texts. It answers `Rule::Size`, at the start of the text, where there are more than 1,048,576 bytes, `Rule::Stage`,
+/// at the whole text, where it spells nothing, and `Fail::Memory` where memory runs out.
 pub fn parse(alloc: Global, text: &[u8]) -> Result<Program, Fail>
     ensures spells { IfOk result (Spells text.now) }
     ensures only { IfOk result (λ program. (other : Program) → Spells text.now other → other ≡ program) }
@@ -66,14 +79,9 @@ pub fn parse(alloc: Global, text: &[u8]) -> Result<Program, Fail>
     let Ok(_) = str::from_utf8(text) else {
         return Err(refused(Rule::Stage, size));
     };
-    match whole_program(alloc, text) {
+    match thin_program(alloc, text) {
         Err(ParseError::Memory) => Err(Fail::Memory),
         Err(ParseError::Form) => Err(refused(Rule::Stage, size)),
-        Ok(program) => {
-            if !is_thin(&program) {
-                return Err(refused(Rule::Stage, size));
-            }
-            Ok(program)
-        }
+        Ok(program) => Ok(program),
     }
 }
