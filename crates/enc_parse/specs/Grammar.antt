@@ -60,57 +60,57 @@ symbol_of operators.Add = codes "+"
 symbol_of operators.Subtract = codes "-"
 symbol_of operators.Multiply = codes "*"
 
--- part = INT | NAME
+-- an integer, or the name of a variable
 pub data IsPart : ℕ → Expr → List ℕ → List ℕ → Type 0 where
   int : {size value : ℕ} {a b : List ℕ} → IsNext (Number value) a b → IsPart size (expr_of size (exprs.Int (pos value)) a b) a b
   name : {size : ℕ} {word a b : List ℕ} → IsName word a b → IsPart size (expr_of size (exprs.Name word) a b) a b
 
--- sum = part [ ( "+" | "-" | "*" ) part ]
+-- a part by itself, or two with an operator between
 pub data IsSum : ℕ → Expr → List ℕ → List ℕ → Type 0 where
   part : {size : ℕ} {x : Expr} {a b : List ℕ} → IsPart size x a b → IsSum size x a b
   binary : {size : ℕ} {operator : Operator} {x y : Expr} {a b c d : List ℕ} → IsPart size x a b → IsSymbol (symbol_of operator) b c → IsPart size y c d → IsSum size (expr_of size (exprs.Binary operator x y) a d) a d
 
--- item = sum | TEXT
+-- a sum, or a quoted text
 pub data IsItem : ℕ → Expr → List ℕ → List ℕ → Type 0 where
   sum : {size : ℕ} {x : Expr} {a b : List ℕ} → IsSum size x a b → IsItem size x a b
   text : {size : ℕ} {bytes a b : List ℕ} → IsNext (Quoted bytes) a b → IsItem size (expr_of size (exprs.Text bytes) a b) a b
 
--- items = item { "," item }
+-- one item, or more with commas between
 pub data IsItems : ℕ → List Expr → List ℕ → List ℕ → Type 0 where
   last : {size : ℕ} {x : Expr} {a b : List ℕ} → IsItem size x a b → IsItems size (x ∷ []) a b
   more : {size : ℕ} {x : Expr} {xs : List Expr} {a b c d : List ℕ} → IsItem size x a b → IsSymbol (codes ",") b c → IsItems size xs c d → IsItems size (x ∷ xs) a d
 
--- line = "let" NAME "=" sum ";" | "print" items ";"
+-- a line that binds a variable to a sum, or one that prints items
 pub data IsLine : ℕ → Stmt → List ℕ → List ℕ → Type 0 where
   let_ : {size : ℕ} {word : List ℕ} {x : Expr} {a b c d e f : List ℕ} → IsWord (codes "let") a b → IsName word b c → IsSymbol (codes "=") c d → IsSum size x d e → IsSymbol (codes ";") e f → IsLine size (record { form = Let (name_of size word b c) (record { form = sources.Expr x; span = between size d e }); span = between size a f }) a f
   print : {size : ℕ} {xs : List Expr} {a b c d : List ℕ} → IsWord (codes "print") a b → IsItems size xs b c → IsSymbol (codes ";") c d → IsLine size (record { form = Print xs; span = between size a d }) a d
 
--- body = { line }
+-- lines, one after another
 pub data IsLines : ℕ → List Stmt → List ℕ → List ℕ → Type 0 where
   none : {size : ℕ} {a : List ℕ} → IsLines size [] a a
   more : {size : ℕ} {x : Stmt} {xs : List Stmt} {a b c : List ℕ} → IsLine size x a b → IsLines size xs b c → IsLines size (x ∷ xs) a c
 
--- "int"
+-- the type of integers
 pub data IsInt : ℕ → TypeText → List ℕ → List ℕ → Type 0 where
   int : {size : ℕ} {a b : List ℕ} → IsWord (codes "int") a b → IsInt size (record { form = types.Int; span = between size a b }) a b
 
--- "List" "[" "int" "]"
+-- the type of lists of integers
 pub data IsIntList : ℕ → TypeText → List ℕ → List ℕ → Type 0 where
   list : {size : ℕ} {item : TypeText} {a b c d e : List ℕ} → IsWord (codes "List") a b → IsSymbol (codes "[") b c → IsInt size item c d → IsSymbol (codes "]") d e → IsIntList size (record { form = types.List item; span = between size a e }) a e
 
--- "unit"
+-- the type of what gives nothing
 pub data IsUnit : ℕ → TypeText → List ℕ → List ℕ → Type 0 where
   unit : {size : ℕ} {a b : List ℕ} → IsWord (codes "unit") a b → IsUnit size (record { form = types.Unit; span = between size a b }) a b
 
--- "args" ":" "List" "[" "int" "]"
+-- the parameter of `main`
 pub data IsArgs : ℕ → Param → List ℕ → List ℕ → Type 0 where
   args : {size : ℕ} {ty : TypeText} {a b c d : List ℕ} → IsWord (codes "args") a b → IsSymbol (codes ":") b c → IsIntList size ty c d → IsArgs size (record { name = name_of size (codes "args") a b; ty = ty; span = between size a d }) a d
 
--- "def" "main" "(" args ")" ":" "unit" "{" body "}"
+-- the method `main`
 pub data IsMain : ℕ → Method → List ℕ → List ℕ → Type 0 where
   main : {size : ℕ} {param : Param} {result : TypeText} {body : List Stmt} {a b c d e f g h i j k : List ℕ} → IsWord (codes "def") a b → IsWord (codes "main") b c → IsSymbol (codes "(") c d → IsArgs size param d e → IsSymbol (codes ")") e f → IsSymbol (codes ":") f g → IsUnit size result g h → IsSymbol (codes "{") h i → IsLines size body i j → IsSymbol (codes "}") j k → IsMain size (record { name = name_of size (codes "main") b c; params = param ∷ []; result = result; body = body; span = between size a k }) a k
 
--- "active" "class" "Main" "{" main "}"
+-- the class `Main`, which has that method alone
 pub data IsMainClass : ℕ → ActiveDecl → List ℕ → List ℕ → Type 0 where
   class : {size : ℕ} {method : Method} {a b c d e f g : List ℕ} → IsWord (codes "active") a b → IsWord (codes "class") b c → IsWord (codes "Main") c d → IsSymbol (codes "{") d e → IsMain size method e f → IsSymbol (codes "}") f g → IsMainClass size (record { name = name_of size (codes "Main") c d; fields = []; methods = method ∷ []; span = between size a g }) a g
 

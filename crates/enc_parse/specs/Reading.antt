@@ -35,7 +35,7 @@ expr_with x = record { form = x.0; span = x.1 }
 unfoldable pub part_form : Parser ExprForm
 part_form = pick (sees is_digit) (exprs.Int <$> number) (exprs.Name <$> name)
 
--- part = INT | NAME
+-- an integer or a variable
 unfoldable pub part : Parser Expr
 part = expr_with <$> spanned part_form
 
@@ -44,15 +44,15 @@ abbrev pub sum_after : Spot → Expr → Option Operator → Parser Expr
 sum_after a x None b = Got x b
 sum_after a x (Some o) b = and_then (part b) (λ y c. Got (record { form = exprs.Binary o x y; span = extent a c }) c)
 
--- sum = part [ ( "+" | "-" | "*" ) part ]
+-- one part, or two with an operator between
 unfoldable pub sum : Parser Expr
 sum = λ a. and_then (part a) (λ x b. and_then (operator b) (λ o c. sum_after a x o c))
 
--- TEXT
+-- a quoted text
 unfoldable pub text : Parser Expr
 text = expr_with <$> spanned (exprs.Text <$> quoted)
 
--- item = sum | TEXT
+-- a quoted text where a quote stands next, else a sum
 unfoldable pub item : Parser Expr
 item = pick (sees (is_byte 34)) text sum
 
@@ -65,7 +65,7 @@ item_if false = λ a. Got None a
 unfoldable pub next_item : Parser (Option Expr)
 next_item = λ a. and_then (takes 44 a) item_if
 
--- items = item { "," item }
+-- one item, and others while commas stand next
 unfoldable pub items : Parser (List Expr)
 items = both (λ x xs. x ∷ xs) item (many next_item)
 
@@ -79,11 +79,11 @@ variable = (λ x. record { word = x.0; span = x.1 }) <$> spanned name
 unfoldable pub source : Parser Source
 source = (λ x. record { form = sources.Expr x.0; span = x.1 }) <$> spanned sum
 
--- "let" NAME "=" sum ";"
+-- a line that binds a variable
 unfoldable pub let_form : Parser StmtForm
 let_form = (λ x. Let x.0 x.1) <$> (word (codes "let") ▹ (variable ⊗ (symbol 61 ▹ (source ◃ symbol 59))))
 
--- "print" items ";"
+-- a line that prints
 unfoldable pub print_form : Parser StmtForm
 print_form = Print <$> (word (codes "print") ▹ (items ◃ symbol 59))
 
@@ -99,7 +99,7 @@ line = (λ x. record { form = x.0; span = x.1 }) <$> spanned line_form
 unfoldable pub next_line : Parser (Option Stmt)
 next_line = pick (sees (is_byte 125)) (λ a. Got None a) (Some <$> line)
 
--- body = { line }
+-- lines, up to a closing brace
 unfoldable pub lines : Parser (List Stmt)
 lines = many next_line
 
@@ -113,35 +113,35 @@ named w = (λ x. record { word = w; span = x.1 }) <$> spanned (word w)
 abbrev pub type_with : TypeForm × Span → TypeText
 type_with x = record { form = x.0; span = x.1 }
 
--- "int"
+-- the type of integers
 unfoldable pub int : Parser TypeText
 int = type_with <$> spanned ((λ _. types.Int) <$> word (codes "int"))
 
--- "unit"
+-- the type of what gives nothing
 unfoldable pub unit_type : Parser TypeText
 unit_type = type_with <$> spanned ((λ _. types.Unit) <$> word (codes "unit"))
 
--- "List" "[" "int" "]"
+-- the type of lists of integers
 unfoldable pub int_list : Parser TypeText
 int_list = type_with <$> spanned (types.List <$> (word (codes "List") ▹ (symbol 91 ▹ (int ◃ symbol 93))))
 
--- "args" ":" "List" "[" "int" "]"
+-- the parameter of `main`
 unfoldable pub args : Parser Param
 args = (λ x. record { name = x.0.0; ty = x.0.1; span = x.1 }) <$> spanned (named (codes "args") ⊗ (symbol 58 ▹ int_list))
 
--- "main" "(" args ")" ":" "unit"
+-- what of `main` stands before its body
 unfoldable pub head : Parser (Name × (Param × TypeText))
 head = named (codes "main") ⊗ (symbol 40 ▹ (args ⊗ (symbol 41 ▹ (symbol 58 ▹ unit_type))))
 
--- "{" body "}"
+-- the body of `main`
 unfoldable pub body : Parser (List Stmt)
 body = symbol 123 ▹ (lines ◃ symbol 125)
 
--- "def" "main" "(" args ")" ":" "unit" "{" body "}"
+-- the method `main`
 unfoldable pub main : Parser Method
 main = (λ x. record { name = x.0.0.0; params = x.0.0.1.0 ∷ []; result = x.0.0.1.1; body = x.0.1; span = x.1 }) <$> spanned (word (codes "def") ▹ (head ⊗ body))
 
--- "active" "class" "Main" "{" main "}"
+-- the class `Main`
 unfoldable pub main_class : Parser ActiveDecl
 main_class = (λ x. record { name = x.0.0; fields = []; methods = x.0.1 ∷ []; span = x.1 })
     <$> spanned (word (codes "active") ▹ (word (codes "class") ▹ (named (codes "Main") ⊗ (symbol 123 ▹ (main ◃ symbol 125)))))
