@@ -1,0 +1,7 @@
+pub mod Answer
+pub mod Command
+pub mod Due
+pub mod Lines
+pub mod Promises
+pub mod Source
+pub mod Status

@@ -1,0 +1,169 @@
+// What the words come to, before anything of it is written.
+ghost use Rattle.std.specs.Prelude.{◌≡◌, ◌<◌, ◌≤◌, ◌^◌, ◌-◌, [], length, IfOk, IsTrue, Some};
+ghost use Rattle.enc_ast.specs.Thin.{is_thin, body_of};
+ghost use Rattle.enc_model.specs.Phase.{phase_of};
+ghost use Rattle.encore_run.specs.Answer.{IsAnswer, IsJudgement, Reports};
+ghost use Rattle.encore_run.specs.Command.{words_of, command_of};
+ghost use Rattle.encore_run.specs.Due.{status_of, stop_line};
+ghost use Rattle.encore_run.specs.Status.{Is, code_of};
+
+use crate::Status;
+use crate::lines::{blocked_line, budget_line, read_line, reject_line, trap_line};
+use crate::reply::Reply;
+use crate::run::drive;
+use crate::words::{Command, read_words};
+use enc_ast::{Fail, Program, Word};
+use enc_io::{Files, ReadFail, read_all};
+use enc_model::{Config, Phase, Plain, Schedule};
+use enc_parse::parse;
+use std::alloc::{AllocError, Global};
+
+/// How many bytes a source may have. One more is read, which tells that there are more.
+const SOURCE_LIMIT: usize = 1_048_576;
+
+/// What the words come to, before anything of it is written.
+pub fn answer<F: Files>(
+    alloc: Global,
+    words: &[String],
+    files: &mut F,
+    schedule: &mut Schedule,
+) -> Reply
+    requires fresh { schedule.old.pairs ≡ [] }
+    requires counted { F.faults files.old < 2 ^ 64 - 1 }
+    ensures answer { IsAnswer (command_of (words_of words.now)) (F.texts files.old) (F.faults files.old) (F.faults files.new) (F.failed files.new) schedule.new.pairs result }
+    ensures unread { Is Status.Usage (code_of result.status) → files.new ≡ files.old }
+{
+    match read_words(alloc, words) {
+        Err(_) => Reply::bare(alloc, Status::Memory),
+        Ok(None) => Reply::bare(alloc, Status::Usage),
+        Ok(Some(command)) => match carry_out(alloc, &command, files, schedule) {
+            Err(_) => Reply::bare(alloc, Status::Memory),
+            Ok(reply) => reply,
+        },
+    }
+}
+
+/// What a command comes to.
+fn carry_out<F: Files>(
+    alloc: Global,
+    command: &Command,
+    files: &mut F,
+    schedule: &mut Schedule,
+) -> Result<Reply, AllocError>
+    requires fresh { schedule.old.pairs ≡ [] }
+    requires counted { F.faults files.old < 2 ^ 64 - 1 }
+    ensures { IfOk result (IsAnswer (Some command.now) (F.texts files.old) (F.faults files.old) (F.faults files.new) (F.failed files.new) schedule.new.pairs) }
+{
+    match read_all(alloc, files, command.source(), SOURCE_LIMIT) {
+        Err(ReadFail::Memory) => Err(AllocError),
+        Err(ReadFail::Failed) => {
+            let line = read_line(alloc, command.source())?;
+            Ok(Reply::said(alloc, Status::ReadFault, line))
+        }
+        Ok(text) => judge(alloc, command.source(), &text, schedule),
+    }
+}
+
+/// What a source comes to.
+fn judge(
+    alloc: Global,
+    file: &str,
+    text: &[u8],
+    schedule: &mut Schedule,
+) -> Result<Reply, AllocError>
+    requires fresh { schedule.old.pairs ≡ [] }
+    requires short { length text.now ≤ 1048577 }
+    ensures { IfOk result (IsJudgement file.now text.now schedule.new.pairs) }
+{
+    match parse(alloc, text) {
+        Err(Fail::Memory) => Err(AllocError),
+        Err(Fail::Reject(reject)) => {
+            let line = reject_line(alloc, file, text, reject)?;
+            Ok(Reply::said(alloc, Status::Rejected, line))
+        }
+        Ok(program) => run(alloc, file, text, program, schedule),
+    }
+}
+
+/// Runs a program, and tells how it ended.
+fn run(
+    alloc: Global,
+    file: &str,
+    text: &[u8],
+    program: Program,
+    schedule: &mut Schedule,
+) -> Result<Reply, AllocError>
+    requires thin { IsTrue (is_thin program) }
+    requires few { length (body_of program) ≤ 1048577 }
+    requires short { length text.now ≤ 1048577 }
+    requires fresh { schedule.old.pairs ≡ [] }
+    ensures { IfOk result (Reports file.now text.now program schedule.new.pairs) }
+{
+    let (plain, steps) = drive(alloc, program, schedule)?;
+    report(alloc, file, text, plain, steps)
+}
+
+/// What a machine that has stopped comes to.
+fn report(
+    alloc: Global,
+    file: &str,
+    text: &[u8],
+    plain: Plain,
+    steps: u64,
+) -> Result<Reply, AllocError>
+    requires { length text.now ≤ 1048577 }
+    ensures { let phase = phase_of plain.program plain.config in IfOk result (λ reply. reply ≡ record {
+      status = status_of phase;
+      output = plain.config.output;
+      line = stop_line file.now text.now steps plain.config phase;
+    }) }
+{
+    let phase = plain.phase()?;
+    let line = stop_line(alloc, file, text, steps, plain.config(), phase)?;
+    let Config {
+        actors: _,
+        cells: _,
+        output,
+    } = plain.into_config();
+    Ok(Reply {
+        status: status_of(phase),
+        output,
+        line,
+    })
+}
+
+/// The line of a machine that has stopped in this phase.
+fn stop_line(
+    alloc: Global,
+    file: &str,
+    text: &[u8],
+    steps: u64,
+    config: &Config,
+    phase: Phase,
+) -> Result<Word, AllocError>
+    requires short { length text.now ≤ 1048577 }
+    requires few { length config.now.actors < 2 ^ 32 }
+    ensures { IfOk result (λ line. line ≡ stop_line file.now text.now steps config.now phase) }
+{
+    match phase {
+        Phase::Ended => Ok(Word::from_string(String::new(alloc))),
+        Phase::Trapped => match config.first_trap() {
+            None => Ok(Word::from_string(String::new(alloc))),
+            Some(trap) => trap_line(alloc, file, text, trap),
+        },
+        Phase::Blocked => blocked_line(alloc, config.waiting()),
+        Phase::Running => budget_line(alloc, steps),
+    }
+}
+
+/// The status of a machine that has stopped in this phase.
+fn status_of(phase: Phase) -> Status
+    ensures { result ≡ status_of phase }
+{
+    match phase {
+        Phase::Ended => Status::Ended,
+        Phase::Trapped => Status::Trapped,
+        Phase::Blocked => Status::Blocked,
+        Phase::Running => Status::Budget,
+    }
+}
