@@ -8,7 +8,7 @@ use Rattle.enc_ast.specs.declared.Rule.{Rule}
 use Rattle.enc_ast.specs.declared.Rule.TheVariants as rules
 use Rattle.enc_ast.specs.declared.Span.{Span}
 use Rattle.enc_io.specs.Causes.{AppendsPrefix}
-use Rattle.enc_io.specs.Texts.{Texts, text_of}
+use Rattle.enc_io.specs.Texts.{Texts, text_of, IsReadOf}
 use Rattle.enc_io.proofs.Known.{Appends-none}
 use Rattle.enc_model.specs.declared.Pair.{Pair}
 use Rattle.enc_model.specs.Phase.{phase_of}
@@ -191,3 +191,32 @@ kept-cut_short command text pairs before now old new history reply status other 
       subst (AppendsPrefix old new) (output_due command text program pairs reply reports) (cut_output before now old new reply status d fault no_fault),
       nothing_due command text program pairs history,
     )
+
+-- ---- what else is said
+
+pub kept-spelled : (file text : List ℕ) (pairs : List Pair) (before now : ℕ) (old new : Option (List ℕ)) (reply : Reply) (status : Status) → IsOfText file text pairs reply → IsDelivery before now old new reply status → IsOneOf ran (code_of status) → (program : Program) × Spells text program
+kept-spelled file text pairs before now old new reply status (unmade s o) d is =
+    absurd (not-among ran Memory status refl (kept before now old new reply status d o ∙ s) is)
+kept-spelled file text pairs before now old new reply status (unread s o) d is =
+    absurd (not-among ran ReadFault status refl (kept before now old new reply status d o ∙ s) is)
+kept-spelled file text pairs before now old new reply status (judged (answers.rejected s o n tells)) d is =
+    absurd (not-among ran Rejected status refl (kept before now old new reply status d o ∙ s) is)
+kept-spelled file text pairs before now old new reply status (judged (answers.ran program spells only reports)) d is = (program, spells)
+
+-- what was read is of a file that is there
+read_there : (texts : Option Texts) (name : List ℕ) (count : ℕ) (bytes : List ℕ) (known : Texts) → IsReadOf texts name count bytes → texts ≡ Some known → text_of known name ≡ None → ⊥
+read_there None name count bytes known h e none = absurd (cc e)
+read_there (Some others) name count bytes known h e none =
+    let same : others ≡ known = cc in
+    let found : Some h.0 ≡ None = sym h.1 ∙ (ap (λ ts. text_of ts name) same ∙ none) in
+    absurd (cc found)
+
+pub kept-missing : (asked : Option Command) (texts : Option Texts) (begun done : ℕ) (failed : Option (List ℕ)) (pairs : List Pair) (before now : ℕ) (old new : Option (List ℕ)) (reply : Reply) (status : Status) (command : Command) (known : Texts) → IsAnswer asked texts begun done failed pairs reply → IsDelivery before now old new reply status → asked ≡ Some command → texts ≡ Some known → text_of known (source_of command) ≡ None → IsOneOf (ReadFault ∷ Memory ∷ []) (code_of status)
+kept-missing asked texts begun done failed pairs before now old new reply status command known (answers.memory s o) d e t none =
+    among (ReadFault ∷ Memory ∷ []) Memory status refl (kept before now old new reply status d o ∙ s)
+kept-missing asked texts begun done failed pairs before now old new reply status command known (answers.usage a s o n p) d e t none = absurd (not_asked asked command a e)
+kept-missing asked texts begun done failed pairs before now old new reply status command known (answers.unread c a s o r p f l) d e t none =
+    among (ReadFault ∷ Memory ∷ []) ReadFault status refl (kept before now old new reply status d o ∙ s)
+kept-missing asked texts begun done failed pairs before now old new reply status command known (answers.judged other a n bytes read judgement) d e t none =
+    let same : other ≡ command = same_command asked other command a e in
+    absurd (read_there texts (source_of other) 1048577 bytes known read t (ap (λ c. text_of known (source_of c)) same ∙ none))

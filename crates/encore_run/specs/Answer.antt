@@ -50,7 +50,7 @@ pub data IsAnswer (asked : Option Command) (texts : Option Texts) (before now : 
   usage : asked ≡ None → reply.status ≡ Usage → reply.output ≡ [] → now ≡ before → pairs ≡ [] → IsAnswer asked texts before now failed pairs reply
   -- the source can't be read
   unread : (command : Command) → asked ≡ Some command → reply.status ≡ ReadFault → reply.output ≡ [] → before < now → pairs ≡ [] → failed ≡ Some (source_of command) → reply.line ≡ read_line (source_of command) → IsAnswer asked texts before now failed pairs reply
-  -- the source was read, of which at most so many bytes count
+  -- the first bytes of the source were read, one more than it may have
   judged : (command : Command) → asked ≡ Some command → now ≡ before → (bytes : List ℕ) → IsReadOf texts (source_of command) 1048577 bytes → IsJudgement (source_of command) bytes pairs reply → IsAnswer asked texts before now failed pairs reply
 
 -- ---- what is written

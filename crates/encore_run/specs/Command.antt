@@ -1,5 +1,5 @@
 -- What the words ask for.
-use Rattle.std.specs.Prelude.{ℕ, List, [], ◌∷◌, map, Option, Some, None, codes, string_bytes, String, if◌then◌else◌}
+use Rattle.std.specs.Prelude.{ℕ, Bool, false, List, [], ◌∷◌, map, Option, Some, None, codes, string_bytes, String, if◌then◌else◌}
 use Rattle.std.specs.Str.{bytes_eq}
 use Rattle.std.specs.declared.alloc.Global.{Global}
 use Rattle.encore_run.specs.declared.words.Command.{Command}
@@ -21,3 +21,7 @@ files_of (Run file) = file ∷ []
 -- the file with the program's text
 abbrev pub source_of : Command → List ℕ
 source_of (Run file) = file
+
+-- whether the command writes its schedule to the history
+abbrev pub records : Command → Bool
+records (Run file) = false

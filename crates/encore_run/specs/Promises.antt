@@ -2,14 +2,17 @@
 use Rattle.std.specs.Prelude.{◌≡◌, ◌<◌, ◌↔◌, ◌⊎◌, ℕ, List, [], ◌∷◌, false, Option, Some, None, IsSome}
 use Rattle.std.specs.Option.{option_map}
 use Rattle.std.specs.Io.KnownBytes.{Appends}
+use Rattle.enc_ast.specs.declared.Program.{Program}
 use Rattle.enc_ast.specs.declared.Rule.{Rule}
 use Rattle.enc_ast.specs.declared.Span.{Span}
 use Rattle.enc_io.specs.Causes.{AppendsPrefix}
-use Rattle.enc_io.specs.Texts.{Texts}
+use Rattle.enc_io.specs.Texts.{Texts, text_of}
 use Rattle.enc_model.specs.declared.Pair.{Pair}
 use Rattle.enc_parse.specs.Failure.{FirstFailure, HasFailure}
+use Rattle.enc_parse.specs.Spells.{Spells}
 use Rattle.encore_run.specs.declared.status.Status.TheVariants.{Ended, Rejected, Usage, Trapped, Blocked, Budget, Memory, ReadFault, WriteFault}
-use Rattle.encore_run.specs.Command.{command_of, source_of}
+use Rattle.encore_run.specs.declared.words.Command.{Command}
+use Rattle.encore_run.specs.Command.{command_of, source_of, records}
 use Rattle.encore_run.specs.Due.{due, IsScheduleFor}
 use Rattle.encore_run.specs.Lines.{usage_line, memory_line, write_line, read_line, reject_line}
 use Rattle.encore_run.specs.Source.{OfSource, OfProgram, NamedFileFailed}
@@ -21,9 +24,9 @@ use Rattle.encore_run.specs.Status.{code_of, Is, IsOneOf, is_one_of, ExactlyWher
 abbrev pub TellsUsage : List (List ℕ) → ℕ → Type 0
 TellsUsage words code = ExactlyWhere (command_of words ≡ None) code Usage (Memory ∷ [])
 
--- where the words are no command, the files stay as they were
-abbrev pub LeavesFiles : {F : Type 0} → F → F → ℕ → Type 0
-LeavesFiles old new code = Is Usage code → new ≡ old
+-- where the words are no command, nothing is read: the files stay as they were
+abbrev pub LeavesFiles : {F : Type 0} → List (List ℕ) → F → F → Type 0
+LeavesFiles words old new = command_of words ≡ None → new ≡ old
 
 -- ---- the files
 
@@ -31,9 +34,14 @@ LeavesFiles old new code = Is Usage code → new ≡ old
 abbrev pub TellsReadFault : ℕ → ℕ → ℕ → Type 0
 TellsReadFault before now code = ExactlyWhere (before < now) code ReadFault (Memory ∷ [])
 
--- the failed file is one that the words name
-abbrev pub NamesFailedFile : List (List ℕ) → Option (List ℕ) → ℕ → Type 0
-NamesFailedFile words failed code = Is ReadFault code → NamedFileFailed words failed
+-- where a call of the files failed, the failed file is one that the words name
+abbrev pub NamesFailedFile : List (List ℕ) → ℕ → ℕ → Option (List ℕ) → Type 0
+NamesFailedFile words before now failed = before < now → NamedFileFailed words failed
+
+-- the files lack the source
+abbrev pub TellsMissing : List (List ℕ) → Option Texts → ℕ → Type 0
+TellsMissing words texts code = (command : Command) (known : Texts) → command_of words ≡ Some command → texts ≡ Some known → text_of known (source_of command) ≡ None
+    → IsOneOf (ReadFault ∷ Memory ∷ []) code
 
 -- the source has a first failure
 abbrev pub TellsRejection : List (List ℕ) → Option Texts → ℕ → Type 0
@@ -50,7 +58,16 @@ abbrev pub LeavesSinks : {O H : Type 0} → O → O → H → H → ℕ → Type
 LeavesSinks out_old out_new history_old history_new code =
     IsOneOf (Rejected ∷ Usage ∷ Memory ∷ ReadFault ∷ []) code → (out_new ≡ out_old) × (history_new ≡ history_old)
 
+-- the history stays as it was, unless the command records its run
+abbrev pub LeavesHistory : {H : Type 0} → List (List ℕ) → H → H → Type 0
+LeavesHistory words old new = (command : Command) → command_of words ≡ Some command → records command ≡ false → new ≡ old
+
 -- ---- where the command has run
+
+-- the source spells a program
+abbrev pub HasProgram : List (List ℕ) → Option Texts → ℕ → Type 0
+HasProgram words texts code = OfSource words texts (λ command text.
+    IsOneOf (Ended ∷ Trapped ∷ Blocked ∷ Budget ∷ WriteFault ∷ []) code → (program : Program) × Spells text program)
 
 -- the schedule is one that the command may hand back
 abbrev pub HandsBackSchedule : List (List ℕ) → Option Texts → List Pair → ℕ → Type 0
@@ -93,7 +110,7 @@ CutsShort words texts pairs out_old out_new history_old history_new code = OfPro
 
 -- ---- what the user is told
 
--- The sink got the line, or a front part of it where a write failed.
+-- The sink got a front part of the line, and the whole of it where no write failed.
 pub record Got (before now : ℕ) (old new : Option (List ℕ)) (line : List ℕ) : Type 0 where
   pub whole : now ≡ before → Appends old new line
   pub front : AppendsPrefix old new line
@@ -107,6 +124,10 @@ pub record Says (words : List (List ℕ)) (texts : Option Texts) (failed : Optio
   pub read_fault : Is ReadFault code → (file : List ℕ) → failed ≡ Some file → S (read_line file)
   pub rejected : OfSource words texts (λ command text. Is Rejected code → (rule : Rule) (span : Span) → FirstFailure text rule span → S (reject_line (source_of command) text rule span))
   pub stopped : OfProgram words texts (λ command text program. IsOneOf (Trapped ∷ Blocked ∷ Budget ∷ []) code → S (due command text program pairs).line)
+
+-- a run that came to its end has no line: the error stream stays as it was
+abbrev pub LeavesErrors : {R : Type 0} → R → R → ℕ → Type 0
+LeavesErrors old new code = Is Ended code → new ≡ old
 
 -- ---- all statuses
 

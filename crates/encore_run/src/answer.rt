@@ -1,11 +1,11 @@
 // What the words come to, before anything of it is written.
-ghost use Rattle.std.specs.Prelude.{◌≡◌, ◌<◌, ◌≤◌, ◌^◌, ◌-◌, [], length, IfOk, IsTrue, Some};
+ghost use Rattle.std.specs.Prelude.{◌≡◌, ◌<◌, ◌≤◌, ◌^◌, ◌-◌, [], length, IfOk, IsTrue, None, Some};
 ghost use Rattle.enc_ast.specs.Thin.{is_thin, body_of};
 ghost use Rattle.enc_model.specs.Phase.{phase_of};
 ghost use Rattle.encore_run.specs.Answer.{IsAnswer, IsJudgement, Reports};
-ghost use Rattle.encore_run.specs.Command.{words_of, command_of};
+ghost use Rattle.encore_run.specs.Command.{words_of, command_of, source_of};
 ghost use Rattle.encore_run.specs.Due.{status_of, stop_line};
-ghost use Rattle.encore_run.specs.Status.{Is, code_of};
+ghost use Rattle.encore_run.specs.Source.{NamedFileFailed};
 
 use crate::Status;
 use crate::lines::{blocked_line, budget_line, read_line, reject_line, trap_line};
@@ -31,7 +31,9 @@ pub fn answer<F: Files>(
     requires fresh { schedule.old.pairs ≡ [] }
     requires counted { F.faults files.old < 2 ^ 64 - 1 }
     ensures answer { IsAnswer (command_of (words_of words.now)) (F.texts files.old) (F.faults files.old) (F.faults files.new) (F.failed files.new) schedule.new.pairs result }
-    ensures unread { Is Status.Usage (code_of result.status) → files.new ≡ files.old }
+    ensures unread { command_of (words_of words.now) ≡ None → files.new ≡ files.old }
+    ensures failed_file { F.faults files.old < F.faults files.new → NamedFileFailed (words_of words.now) (F.failed files.new) }
+    ensures texts { F.texts files.new ≡ F.texts files.old }
 {
     match read_words(alloc, words) {
         Err(_) => Reply::bare(alloc, Status::Memory),
@@ -52,7 +54,9 @@ fn carry_out<F: Files>(
 ) -> Result<Reply, AllocError>
     requires fresh { schedule.old.pairs ≡ [] }
     requires counted { F.faults files.old < 2 ^ 64 - 1 }
-    ensures { IfOk result (IsAnswer (Some command.now) (F.texts files.old) (F.faults files.old) (F.faults files.new) (F.failed files.new) schedule.new.pairs) }
+    ensures answer { IfOk result (IsAnswer (Some command.now) (F.texts files.old) (F.faults files.old) (F.faults files.new) (F.failed files.new) schedule.new.pairs) }
+    ensures failed_file { F.faults files.old < F.faults files.new → F.failed files.new ≡ Some (source_of command.now) }
+    ensures texts { F.texts files.new ≡ F.texts files.old }
 {
     match read_all(alloc, files, command.source(), SOURCE_LIMIT) {
         Err(ReadFail::Memory) => Err(AllocError),

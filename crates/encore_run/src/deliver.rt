@@ -16,6 +16,7 @@ pub fn deliver<O: Sink, R: Sink>(reply: &Reply, out: &mut O, err: &mut R) -> Sta
     ensures delivery { IsDelivery (O.faults out.old) (O.faults out.new) (O.written out.old) (O.written out.new) reply.now result }
     ensures untouched { reply.now.output ≡ [] → out.new ≡ out.old }
     ensures said { Got (R.faults err.old) (R.faults err.new) (R.written err.old) (R.written err.new) (line_due result reply.now.line) }
+    ensures quiet { line_due result reply.now.line ≡ [] → err.new ≡ err.old }
 {
     let status = write_output(reply, out);
     say(err, line_due(status, reply.line.as_str()));
@@ -37,7 +38,8 @@ fn write_output<O: Sink>(reply: &Reply, out: &mut O) -> Status
 /// Writes a line, as far as the sink takes it.
 fn say<R: Sink>(err: &mut R, line: &str)
     requires { R.faults err.old < 2 ^ 64 - 1 }
-    ensures { Got (R.faults err.old) (R.faults err.new) (R.written err.old) (R.written err.new) line.now }
+    ensures said { Got (R.faults err.old) (R.faults err.new) (R.written err.old) (R.written err.new) line.now }
+    ensures quiet { line.now ≡ [] → err.new ≡ err.old }
 {
     let _ = write_all(err, line.as_bytes());
 }

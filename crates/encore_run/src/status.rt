@@ -11,7 +11,7 @@ pub enum Status {
     Usage,
     /// No actor is ready, and one has trapped.
     Trapped,
-    /// No actor is ready, and one waits.
+    /// No actor is ready, none has trapped, and one waits.
     Blocked,
     /// The run has made as many steps as it may.
     Budget,
@@ -19,7 +19,7 @@ pub enum Status {
     Memory,
     /// A file that the words name can't be read.
     ReadFault,
-    /// The output can't be written.
+    /// The output or the history can't be written.
     WriteFault,
 }
 

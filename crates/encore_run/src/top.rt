@@ -1,7 +1,7 @@
 // The program's top calls.
 ghost use Rattle.std.specs.Prelude.{◌≡◌, ◌<◌, ◌^◌, ◌-◌, []};
 ghost use Rattle.encore_run.specs.Command.{words_of};
-ghost use Rattle.encore_run.specs.Promises.{TellsUsage, LeavesFiles, TellsReadFault, NamesFailedFile, TellsRejection, LeavesSchedule, LeavesSinks, HandsBackSchedule, TellsPhase, WritesOutput, WritesHistory, ComesToAnEnd, TellsWriteFault, CutsShort, Says, Got, IsKnown};
+ghost use Rattle.encore_run.specs.Promises.{TellsUsage, LeavesFiles, TellsReadFault, NamesFailedFile, TellsMissing, TellsRejection, LeavesSchedule, LeavesSinks, LeavesHistory, HasProgram, HandsBackSchedule, TellsPhase, WritesOutput, WritesHistory, ComesToAnEnd, TellsWriteFault, CutsShort, Says, Got, LeavesErrors, IsKnown};
 
 use crate::answer::answer;
 use crate::deliver::deliver;
@@ -30,16 +30,20 @@ pub fn encore_plain<F: Files, O: Sink, R: Sink, H: Sink>(
 
     // What was asked for, and what was read.
     ensures usage { TellsUsage (words_of words.now) result }
-    ensures unread { LeavesFiles files.old files.new result }
+    ensures unread { LeavesFiles (words_of words.now) files.old files.new }
     ensures read_fault { TellsReadFault (F.faults files.old) (F.faults files.new) result }
-    ensures failed_file { NamesFailedFile (words_of words.now) (F.failed files.new) result }
+    ensures failed_file { NamesFailedFile (words_of words.now) (F.faults files.old) (F.faults files.new) (F.failed files.new) }
+    ensures missing { TellsMissing (words_of words.now) (F.texts files.old) result }
+    ensures texts { F.texts files.new ≡ F.texts files.old }
     ensures rejected { TellsRejection (words_of words.now) (F.texts files.old) result }
 
     // Where nothing has run, or nothing can be said.
     ensures unrun { LeavesSchedule schedule.new.pairs result }
     ensures unwritten { LeavesSinks out.old out.new history.old history.new result }
+    ensures unrecorded { LeavesHistory (words_of words.now) history.old history.new }
 
     // Where the command has run.
+    ensures spelled { HasProgram (words_of words.now) (F.texts files.old) result }
     ensures legal { HandsBackSchedule (words_of words.now) (F.texts files.old) schedule.new.pairs result }
     ensures settled { TellsPhase (words_of words.now) (F.texts files.old) schedule.new.pairs result }
     ensures written { WritesOutput (words_of words.now) (F.texts files.old) schedule.new.pairs (O.written out.old) (O.written out.new) result }
@@ -52,6 +56,7 @@ pub fn encore_plain<F: Files, O: Sink, R: Sink, H: Sink>(
 
     // What the user is told, and all numbers.
     ensures said { Says (words_of words.now) (F.texts files.old) (F.failed files.new) schedule.new.pairs result (Got (R.faults err.old) (R.faults err.new) (R.written err.old) (R.written err.new)) }
+    ensures quiet { LeavesErrors err.old err.new result }
     ensures known { IsKnown result }
 {
     let reply = answer(alloc, words, files, schedule);
@@ -59,7 +64,7 @@ pub fn encore_plain<F: Files, O: Sink, R: Sink, H: Sink>(
 }
 
 /// Does what the words ask for, and gives the number with which the program ends. The schedule,
-/// empty at first, gets the steps of the run that was made. It may start threads and wait for them.
+/// empty at first, gets the steps of the run that was made. It is allowed to start threads and to wait for them.
 pub fn encore_main<T: Threads + Wait + Sync, F: Files, O: Sink, R: Sink, H: Sink>(
     _rt: &T,
     alloc: Global,
@@ -78,16 +83,20 @@ pub fn encore_main<T: Threads + Wait + Sync, F: Files, O: Sink, R: Sink, H: Sink
 
     // What was asked for, and what was read.
     ensures usage { TellsUsage (words_of words.now) result }
-    ensures unread { LeavesFiles files.old files.new result }
+    ensures unread { LeavesFiles (words_of words.now) files.old files.new }
     ensures read_fault { TellsReadFault (F.faults files.old) (F.faults files.new) result }
-    ensures failed_file { NamesFailedFile (words_of words.now) (F.failed files.new) result }
+    ensures failed_file { NamesFailedFile (words_of words.now) (F.faults files.old) (F.faults files.new) (F.failed files.new) }
+    ensures missing { TellsMissing (words_of words.now) (F.texts files.old) result }
+    ensures texts { F.texts files.new ≡ F.texts files.old }
     ensures rejected { TellsRejection (words_of words.now) (F.texts files.old) result }
 
     // Where nothing has run, or nothing can be said.
     ensures unrun { LeavesSchedule schedule.new.pairs result }
     ensures unwritten { LeavesSinks out.old out.new history.old history.new result }
+    ensures unrecorded { LeavesHistory (words_of words.now) history.old history.new }
 
     // Where the command has run.
+    ensures spelled { HasProgram (words_of words.now) (F.texts files.old) result }
     ensures legal { HandsBackSchedule (words_of words.now) (F.texts files.old) schedule.new.pairs result }
     ensures settled { TellsPhase (words_of words.now) (F.texts files.old) schedule.new.pairs result }
     ensures written { WritesOutput (words_of words.now) (F.texts files.old) schedule.new.pairs (O.written out.old) (O.written out.new) result }
@@ -100,6 +109,7 @@ pub fn encore_main<T: Threads + Wait + Sync, F: Files, O: Sink, R: Sink, H: Sink
 
     // What the user is told, and all numbers.
     ensures said { Says (words_of words.now) (F.texts files.old) (F.failed files.new) schedule.new.pairs result (Got (R.faults err.old) (R.faults err.new) (R.written err.old) (R.written err.new)) }
+    ensures quiet { LeavesErrors err.old err.new result }
     ensures known { IsKnown result }
 {
     encore_plain(alloc, words, files, out, err, history, schedule)

@@ -4,8 +4,8 @@ use Rattle.encore_run.specs.Lines.{read_line}
 use Rattle.encore_run.proofs.Judgements.{answer-of_judgement}
 use Rattle.encore_run.proofs.answer.carry_out.Goals as goal
 
-pub returns-in_ok-line-in-Err-Failed : goal.returns-in_ok-line-in-Err-Failed
-returns-in_ok-line-in-Err-Failed g c =
+pub returns-in_ok-line-in-Err-Failed-clause-answer : goal.returns-in_ok-line-in-Err-Failed-clause-answer
+returns-in_ok-line-in-Err-Failed-clause-answer g c =
     let failed = ap (λ e. Err e) c.in-Err-Failed.field-0-is in
     unread c.args.command.now refl
     (ap (λ r. r.status) c.said.ensures)
@@ -15,8 +15,8 @@ returns-in_ok-line-in-Err-Failed g c =
     (c.in-Err-Failed.ensures.named failed ∙ ap (λ name. Some name) c.source.ensures)
     (ap (λ r. r.line) c.said.ensures ∙ c.in_ok-line-in-Err-Failed.ensures ∙ ap read_line c.source-in-Err-Failed.ensures)
 
-pub returns-in-Ok : goal.returns-in-Ok
-returns-in-Ok g c =
+pub returns-in-Ok-clause-answer : goal.returns-in-Ok-clause-answer
+returns-in-Ok-clause-answer g c =
     answer-of_judgement c.args.command.now _ _ _ _ _ c.deref.result.now c.judge.result
     c.in-Ok.ensures.cause.ok
     (rw (c.deref.ensures.value, ← c.source.ensures) c.in-Ok.ensures.bytes)

@@ -1,7 +1,8 @@
-use Rattle.std.proofs.Common.{ℕ, List}
+use Rattle.std.proofs.Common.{◌≡◌, ℕ, List, refl}
+use Rattle.encore_run.specs.Answer.{line_due}
 use Rattle.encore_run.specs.declared.status.Status.TheVariants.{Usage, Memory, WriteFault}
 use Rattle.encore_run.specs.Promises.{Got}
-use Rattle.encore_run.proofs.Kept.{of_text, kept-rejected, kept-legal, kept-settled, kept-written, kept-cut_short}
+use Rattle.encore_run.proofs.Kept.{of_text, kept-rejected, kept-missing, kept-spelled, kept-legal, kept-settled, kept-written, kept-cut_short}
 use Rattle.encore_run.proofs.Said.{said-ended, said-own, said-unread, said-rejected, said-stopped}
 use Rattle.encore_run.proofs.top.encore_plain.Goals as goal
 
@@ -10,6 +11,22 @@ returns-clause-rejected g c = λ command asked known text told is.
     rw c.code.ensures
     (kept-rejected _ text _ _ _ _ _ c.answer-reply.result c.deliver.result
     (of_text _ _ _ _ _ _ c.answer-reply.result command known text c.answer-reply.ensures.answer asked told is) c.deliver.ensures.delivery)
+
+pub returns-clause-missing : goal.returns-clause-missing
+returns-clause-missing g c = λ command known asked told none.
+    rw c.code.ensures
+    (kept-missing _ _ _ _ _ _ _ _ _ _ c.answer-reply.result c.deliver.result command known c.answer-reply.ensures.answer c.deliver.ensures.delivery asked told none)
+
+pub returns-clause-spelled : goal.returns-clause-spelled
+returns-clause-spelled g c = λ command asked known text told is.
+    rw c.code.ensures
+    (kept-spelled _ text _ _ _ _ _ c.answer-reply.result c.deliver.result
+    (of_text _ _ _ _ _ _ c.answer-reply.result command known text c.answer-reply.ensures.answer asked told is) c.deliver.ensures.delivery)
+
+pub returns-clause-quiet : goal.returns-clause-quiet
+returns-clause-quiet g c = λ is.
+    c.deliver.ensures.quiet
+    (said-ended _ _ _ _ _ _ _ _ _ _ c.answer-reply.result c.deliver.result (λ line. line_due c.deliver.result c.answer-reply.result.line ≡ line) c.answer-reply.ensures.answer c.deliver.ensures.delivery refl (rw c.code.ensures at is))
 
 pub returns-clause-legal : goal.returns-clause-legal
 returns-clause-legal g c = λ command asked known text told is program spelled.
