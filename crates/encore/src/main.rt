@@ -6,10 +6,9 @@ use enc_io::{HostErr, HostFiles, HostNew, HostOut, write_all};
 use enc_model::Schedule;
 use encore_run::{MEMORY_LINE, Status, encore_main};
 use std::alloc::Global;
-use std::env;
-use std::io;
 use std::process::ExitCode;
 use std::rt::Env;
+use std::{env, io};
 
 fn main(rt: HostRuntime) -> ExitCode {
     let alloc = rt.alloc();
