@@ -1,0 +1,9 @@
+pub mod FrontLaws
+pub mod MeetLaws
+pub mod NameLaws
+pub mod OneAnswer
+pub mod StandLaws
+pub mod StepLaws
+pub mod SymbolLaws
+pub mod TextLaws
+pub mod WordLaws

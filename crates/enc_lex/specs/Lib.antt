@@ -1,0 +1,10 @@
+pub mod Bytes
+pub mod Escapes
+pub mod Failure
+pub mod Lexes
+pub mod Names
+pub mod Reading
+pub mod Standing
+pub mod Symbols
+pub mod Values
+pub mod Words

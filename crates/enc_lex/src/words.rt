@@ -1,0 +1,73 @@
+// The language's own words.
+ghost use Rattle.std.specs.Prelude.{◌≡◌};
+ghost use Rattle.enc_lex.specs.Words.{kind_of_word};
+
+use crate::Kind;
+
+/// The kind of a token that is spelled as a name: one of the language's own words, or a name.
+pub(crate) fn kind_of(word: &str) -> Kind
+    ensures { result ≡ kind_of_word word.now }
+{
+    match word {
+        "active" => Kind::Active,
+        "and" => Kind::And,
+        "append" => Kind::Append,
+        "as" => Kind::As,
+        "at" => Kind::At,
+        "atomic" => Kind::Atomic,
+        "await" => Kind::Await,
+        "bestow" => Kind::Bestow,
+        "Bestowed" => Kind::Bestowed,
+        "bool" => Kind::TypeBool,
+        "both" => Kind::Both,
+        "chain" => Kind::Chain,
+        "choose" => Kind::Choose,
+        "class" => Kind::Class,
+        "def" => Kind::Def,
+        "each" => Kind::Each,
+        "else" => Kind::Else,
+        "empty" => Kind::Empty,
+        "extract" => Kind::Extract,
+        "false" => Kind::False,
+        "fun" => Kind::Fun,
+        "Fut" => Kind::Fut,
+        "future" => Kind::Future,
+        "get" => Kind::Get,
+        "if" => Kind::If,
+        "int" => Kind::TypeInt,
+        "into" => Kind::Into,
+        "isnull" => Kind::IsNull,
+        "join" => Kind::Join,
+        "len" => Kind::Len,
+        "let" => Kind::Let,
+        "lift" => Kind::Lift,
+        "linear" => Kind::Linear,
+        "List" => Kind::List,
+        "local" => Kind::Local,
+        "new" => Kind::New,
+        "nil" => Kind::Nil,
+        "not" => Kind::Not,
+        "null" => Kind::Null,
+        "or" => Kind::Or,
+        "otherwise" => Kind::Otherwise,
+        "pack" => Kind::Pack,
+        "Par" => Kind::Par,
+        "print" => Kind::Print,
+        "prune" => Kind::Prune,
+        "read" => Kind::Read,
+        "return" => Kind::Return,
+        "seq" => Kind::Seq,
+        "split" => Kind::Split,
+        "subordinate" => Kind::Subordinate,
+        "suspend" => Kind::Suspend,
+        "take" => Kind::Take,
+        "text" => Kind::TypeText,
+        "this" => Kind::This,
+        "trait" => Kind::Trait,
+        "true" => Kind::True,
+        "unit" => Kind::Unit,
+        "while" => Kind::While,
+        "with" => Kind::With,
+        _ => Kind::Name,
+    }
+}
