@@ -1,4 +1,5 @@
 pub mod FrontLaws
+pub mod KindLaws
 pub mod MeetLaws
 pub mod NameLaws
 pub mod OneAnswer

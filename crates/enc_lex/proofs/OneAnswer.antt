@@ -1,14 +1,17 @@
 -- A text has its tokens or one failure, and never two answers.
-use Rattle.std.proofs.Common.{◌≡◌, ℕ, ◌<◌, ◌≤◌, ◌⊎◌, inl, inr, ⊎_elim, true, false, List, [], length, refl, ap, sym, subst, ◌∙◌, arith, IsUtf8, All, true≢false, Result, Ok, Err, IfOk}
+use Rattle.std.proofs.Common.{◌≡◌, ℕ, ◌<◌, ◌≤◌, ◌⊎◌, inl, inr, ⊎_elim, true, false, List, [], length, refl, ap, sym, subst, ◌∙◌, arith, IsUtf8, All, true≢false, Result, Ok, Err, IfOk, IfErr}
 use Rattle.std.proofs.lemmas.Bool.{cases_lt, cases_Bool}
 use Rattle.std.proofs.lemmas.Str.{IsUtf8-from_is_utf8, is_utf8-from_IsUtf8}
 use Rattle.std.specs.Str.{is_utf8}
 use Rattle.std.specs.Str.Lossy.{utf8_valid_len}
 use Rattle.enc_ast.specs.declared.rules.Reject.{Reject}
+use Rattle.enc_ast.specs.declared.rules.Fail.{Fail}
+use Rattle.enc_ast.specs.declared.rules.Fail.TheVariants as errors
 use Rattle.enc_lex.specs.declared.tokens.Token.{Token}
 use Rattle.enc_lex.specs.declared.standing.Standing.TheVariants as st
 use Rattle.enc_lex.specs.Reading.{standing}
 use Rattle.enc_lex.specs.Lexes.{max_len, Meets, Lexes, StandsIn, InOrder}
+use Rattle.enc_lex.specs.Answers.{Fails, GivesTokens, GivesFailure}
 use Rattle.enc_lex.specs.Failure.{IsBad, Refuses, IsStuck, token_reject, size_reject}
 use Rattle.enc_lex.proofs.MeetLaws.{meets_same, meets_in_order, meets_len, meets_stands, nothing_at_end, nothing_from, meets_utf8, ends, Ends}
 
@@ -73,6 +76,17 @@ answer_of text =
     record { answer = inr (token_reject (utf8_valid_len text), inr (inl (record { short = short; broken = λ u. true≢false (sym (is_utf8-from_IsUtf8 text u) ∙ no); is = refl }))) })
     (cases_Bool (is_utf8 text)))
     (cases_lt max_len (length text))
+
+-- so what is given where both clauses hold is all that can be
+pub only_tokens : (text : List ℕ) (r : Result (List Token) Fail) → IfOk r (λ tokens. Lexes text tokens) → IfErr r (λ fail. Fails text fail) → (tokens : List Token) → Lexes text tokens → GivesTokens tokens r
+only_tokens text (Ok given) is fails tokens has = one_lexes text given tokens is has
+only_tokens text (Err (errors.Reject reject)) is fails tokens has = lexes_not_refused text tokens reject has fails
+only_tokens text (Err errors.Memory) is fails tokens has = tt
+
+pub only_failure : (text : List ℕ) (r : Result (List Token) Fail) → IfOk r (λ tokens. Lexes text tokens) → IfErr r (λ fail. Fails text fail) → (reject : Reject) → Refuses text reject → GivesFailure reject r
+only_failure text (Ok given) is fails reject has = lexes_not_refused text given reject is has
+only_failure text (Err (errors.Reject given)) is fails reject has = one_refusal text given reject fails has
+only_failure text (Err errors.Memory) is fails reject has = tt
 
 -- what holds of each value holds of a result's
 pub ok_weaker : {X E : Type 0} (P Q : X → Type 0) (r : Result X E) → ((x : X) → P x → Q x) → IfOk r P → IfOk r Q

@@ -1,7 +1,7 @@
 -- What every symbol of the table has in common.
-use Rattle.std.proofs.Common.{◌≡◌, ℕ, ◌<◌, Bool, true, false, not, ◌&&◌, ◌||◌, ◌==◌, List, [], ◌∷◌, ◌++◌, length, refl, ap, sym, ◌∙◌, Option, Some, None, is_some, is_none, true≢false, ⊎_elim, bytes_eq, slice_index, codes, nat_lt, ltb-true, lt-ltb, ap₂}
+use Rattle.std.proofs.Common.{◌≡◌, ℕ, ◌<◌, Bool, true, false, not, ◌&&◌, ◌||◌, ◌==◌, List, [], ◌∷◌, ◌++◌, length, refl, ap, subst, sym, ◌∙◌, Option, Some, None, is_some, is_none, true≢false, ⊎_elim, bytes_eq, slice_index, codes, nat_lt, ltb-true, lt-ltb, ap₂}
 use Rattle.std.specs.List.{list_all}
-use Rattle.std.proofs.lemmas.Bool.{agree_below_at, and_parts, or_parts, or_from, not-true, cases_Bool, cond-false, and_right}
+use Rattle.std.proofs.lemmas.Bool.{agree_below_at, and_parts, or_parts, or_from, not-true, cases_Bool, cond-true, cond-false, and_right}
 use Rattle.std.proofs.lemmas.Slice.Eq.{bytes_eq-Decides}
 use Rattle.enc_lex.specs.declared.kinds.Kind.{Kind}
 use Rattle.enc_lex.specs.declared.standing.Standing.TheVariants as st
@@ -32,6 +32,19 @@ holds_in test (entry ∷ entries) word kind all e =
     ⊎_elim
     (λ (same : bytes_eq word entry.0 ≡ true). rw ((bytes_eq-Decides word entry.0).0 same) both.0)
     (λ (no : bytes_eq word entry.0 ≡ false). holds_in test entries word kind both.1 (sym (cond-false _ _ _ no) ∙ e))
+    (cases_Bool (bytes_eq word entry.0))
+
+-- the same of its kind
+pub kind_holds_in : (test : Kind → Bool) (entries : List (List ℕ × Kind)) (word : List ℕ) (kind : Kind) → list_all (λ e. test e.1) entries ≡ true → symbol_in entries word ≡ Some kind → test kind ≡ true
+kind_holds_in test [] word kind all e = absurd (cc)
+kind_holds_in test (entry ∷ entries) word kind all e =
+    let both = and_parts (test entry.1) (list_all (λ e. test e.1) entries) all in
+    ⊎_elim
+    (λ (same : bytes_eq word entry.0 ≡ true).
+    let found : Some entry.1 ≡ Some kind = sym (cond-true _ _ _ same) ∙ e in
+    let is : entry.1 ≡ kind = cc in
+    subst (λ kind. test kind ≡ true) is both.0)
+    (λ (no : bytes_eq word entry.0 ≡ false). kind_holds_in test entries word kind both.1 (sym (cond-false _ _ _ no) ∙ e))
     (cases_Bool (bytes_eq word entry.0))
 
 pub symbol_shaped : (word : List ℕ) (kind : Kind) → symbol_of word ≡ Some kind → is_shaped word ≡ true

@@ -1,30 +1,39 @@
 -- The bytes that tokens are made of.
 use Rattle.std.specs.Prelude.{ℕ, Bool, false, not, ◌||◌, ◌==◌, List, [], ◌∷◌}
 
+-- the tab
 abbrev pub tab : ℕ
 tab = 9
 
+-- the end of a line
 abbrev pub line_feed : ℕ
 line_feed = 10
 
+-- the carriage return, which ends no line
 abbrev pub carriage_return : ℕ
 carriage_return = 13
 
+-- the space
 abbrev pub space : ℕ
 space = 32
 
+-- the byte before a text and behind it
 abbrev pub quote : ℕ
 quote = 34
 
+-- the byte that begins a comment with another one
 abbrev pub slash : ℕ
 slash = 47
 
+-- the digit of nothing
 abbrev pub zero_digit : ℕ
 zero_digit = 48
 
+-- the byte that begins an escape
 abbrev pub backslash : ℕ
 backslash = 92
 
+-- the byte of names that is no letter and no digit
 abbrev pub underscore : ℕ
 underscore = 95
 

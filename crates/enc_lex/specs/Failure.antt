@@ -3,8 +3,6 @@ use Rattle.std.specs.Prelude.{◌≡◌, ◌≢◌, ◌⊎◌, ℕ, ◌+◌, ◌
 use Rattle.std.specs.Str.Lossy.{utf8_valid_len}
 use Rattle.enc_ast.specs.declared.rules.Rule.TheVariants as rules
 use Rattle.enc_ast.specs.declared.rules.Reject.{Reject}
-use Rattle.enc_ast.specs.declared.rules.Fail.{Fail}
-use Rattle.enc_ast.specs.declared.rules.Fail.TheVariants as fails
 use Rattle.enc_lex.specs.declared.kinds.Kind.{Kind}
 use Rattle.enc_lex.specs.declared.tokens.Token.{Token}
 use Rattle.enc_lex.specs.Standing.{IsGap, Stands}
@@ -49,8 +47,3 @@ pub record IsStuck (text : List ℕ) (reject : Reject) : Type 0 where
 -- the first failure of a text
 abbrev pub Refuses : List ℕ → Reject → Type 0
 Refuses text reject = IsTooLong text reject ⊎ (IsBroken text reject ⊎ IsStuck text reject)
-
--- why there are no tokens: the text has a failure, or memory ran out
-abbrev pub Fails : List ℕ → Fail → Type 0
-Fails text (fails.Reject reject) = Refuses text reject
-Fails text fails.Memory = Unit {0}

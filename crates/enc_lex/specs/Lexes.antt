@@ -20,8 +20,11 @@ token_at kind at word = record { kind = kind; span = span at (at + length word) 
 
 -- Reading goes from one place to a later one, and these tokens stand between. A place is the number of a byte with the text from there on.
 pub data Meets : ℕ → List ℕ → ℕ → List ℕ → List Token → Type 0 where
+  -- the two places are one
   here : {at : ℕ} {text : List ℕ} → Meets at text at text []
+  -- what stands first is no token
   gap : {at end : ℕ} {text rest left : List ℕ} {tokens : List Token} (skipped : List ℕ) → text ≡ skipped ++ rest → IsGap skipped rest → Meets (at + length skipped) rest end left tokens → Meets at text end left tokens
+  -- a token stands first
   token : {at end : ℕ} {text rest left : List ℕ} {tokens : List Token} (kind : Kind) (word : List ℕ) → text ≡ word ++ rest → Stands kind word rest → Meets (at + length word) rest end left tokens → Meets at text end left (token_at kind at word ∷ tokens)
 
 -- The text is not too long, it is UTF-8, and from its start to its end these are its tokens.

@@ -1,8 +1,10 @@
 // Reads a text into its tokens.
 ghost use Rattle.std.specs.Prelude.{◌≡◌, ◌≤◌, IfOk, IfErr, All, List, length, IsUtf8};
+ghost use Rattle.enc_ast.specs.declared.rules.Reject.{Reject};
 ghost use Rattle.enc_lex.specs.declared.tokens.Token.{Token};
 ghost use Rattle.enc_lex.specs.Lexes.{max_len, Lexes, StandsIn, InOrder};
-ghost use Rattle.enc_lex.specs.Failure.{Fails, token_reject};
+ghost use Rattle.enc_lex.specs.Answers.{Fails, GivesTokens, GivesFailure};
+ghost use Rattle.enc_lex.specs.Failure.{Refuses, token_reject};
 
 use crate::first::stands_first;
 use crate::standing::Standing;
@@ -22,12 +24,15 @@ pub const MAX_LEN: usize = 1 << 20;
 /// has an unknown escape. `Fail::Memory` says nothing of the text.
 pub fn lex(alloc: Global, text: &[u8]) -> Result<Tokens, Fail>
     ensures lexed { IfOk result (λ tokens. Lexes text.now tokens) }
-
-    // No other tokens are those of the text.
-    ensures only { IfOk result (λ tokens. (other : List Token) → Lexes text.now other → other ≡ tokens) }
-    ensures in_order { IfOk result (λ tokens. InOrder 0 (length text.now) tokens) }
-    ensures spelled { IfOk result (λ tokens. All (StandsIn text.now) tokens) }
     ensures refused { IfErr result (λ fail. Fails text.now fail) }
+
+    // A text that has tokens or a failure gets these and no others.
+    ensures only_tokens { (tokens : List Token) → Lexes text.now tokens → GivesTokens tokens result }
+    ensures only_failure { (reject : Reject) → Refuses text.now reject → GivesFailure reject result }
+
+    // The tokens stand in order, each where the bytes at its span are such a token.
+    ensures in_order { IfOk result (λ tokens. InOrder 0 (length text.now) tokens) }
+    ensures standing { IfOk result (λ tokens. All (StandsIn text.now) tokens) }
 {
     if text.len() > MAX_LEN {
         let span = Span { start: 0, end: 0 };

@@ -30,7 +30,7 @@ impl Model for Tokens {
 
 impl Tokens {
     /// The tokens of a row, with no copy.
-    pub fn from_row(items: Row<Token>) -> Tokens
+    pub(crate) fn from_row(items: Row<Token>) -> Tokens
         ensures { result ≡ items }
     {
         Tokens { items }

@@ -1,25 +1,29 @@
--- What follows for the tokens of a text.
-use Rattle.std.proofs.Common.{◌≡◌, List, length, subst, IfOk, All}
+-- What follows for the answer of a text.
+use Rattle.std.proofs.Common.{◌≡◌, List, length, subst, IfOk, IfErr, All}
 use Rattle.enc_lex.specs.declared.tokens.Token.{Token}
+use Rattle.enc_lex.specs.Answers.{Fails}
 use Rattle.enc_lex.specs.Lexes.{Lexes, StandsIn, InOrder}
-use Rattle.enc_lex.proofs.OneAnswer.{one_lexes, lexes_in_order, lexes_stands, ok_weaker}
+use Rattle.enc_lex.proofs.OneAnswer.{lexes_in_order, lexes_stands, only_tokens, only_failure, ok_weaker}
 use Rattle.enc_lex.proofs.lexing.lex.Goals as goal
 
 lexed : (c : goal.After-tokens_of) → IfOk c.tokens_of.result (λ tokens. Lexes c.args.text.now tokens)
 lexed c = subst (λ text. IfOk c.tokens_of.result (λ tokens. Lexes text tokens)) c.in-Ok.ensures.cases.0 c.tokens_of.ensures.lexed
 
-pub returns-in-Ok-clause-only : goal.returns-in-Ok-clause-only
-returns-in-Ok-clause-only c =
-    let text = c.args.text.now in
-    ok_weaker (Lexes text) (λ tokens. (other : List Token) → Lexes text other → other ≡ tokens) c.tokens_of.result
-    (λ tokens is other was. one_lexes text other tokens was is) (lexed c)
+refused : (c : goal.After-tokens_of) → IfErr c.tokens_of.result (λ fail. Fails c.args.text.now fail)
+refused c = subst (λ text. IfErr c.tokens_of.result (λ fail. Fails text fail)) c.in-Ok.ensures.cases.0 c.tokens_of.ensures.refused
+
+pub returns-in-Ok-clause-only_tokens : goal.returns-in-Ok-clause-only_tokens
+returns-in-Ok-clause-only_tokens c = only_tokens c.args.text.now c.tokens_of.result (lexed c) (refused c)
+
+pub returns-in-Ok-clause-only_failure : goal.returns-in-Ok-clause-only_failure
+returns-in-Ok-clause-only_failure c = only_failure c.args.text.now c.tokens_of.result (lexed c) (refused c)
 
 pub returns-in-Ok-clause-in_order : goal.returns-in-Ok-clause-in_order
 returns-in-Ok-clause-in_order c =
     let text = c.args.text.now in
     ok_weaker (Lexes text) (InOrder 0 (length text)) c.tokens_of.result (lexes_in_order text) (lexed c)
 
-pub returns-in-Ok-clause-spelled : goal.returns-in-Ok-clause-spelled
-returns-in-Ok-clause-spelled c =
+pub returns-in-Ok-clause-standing : goal.returns-in-Ok-clause-standing
+returns-in-Ok-clause-standing c =
     let text = c.args.text.now in
     ok_weaker (Lexes text) (λ tokens. All (StandsIn text) tokens) c.tokens_of.result (lexes_stands text) (lexed c)
