@@ -1,5 +1,5 @@
 -- What the bytes of names, integers and texts are.
-use Rattle.std.proofs.Common.{◌≡◌, ℕ, ◌≤◌, Bool, true, false, not, ◌||◌, List, [], ◌∷◌, ◌++◌, refl, sym, ap, subst, ◌∙◌, Some, arith, IsUtf8, bytes_eq, true≢false, map, ⊎_elim, ◌⊎◌, inl, inr, ◌+◌, ◌-◌, length, take, take_at, length-append}
+use Rattle.std.proofs.Common.{◌≡◌, ℕ, Bool, true, false, not, List, [], ◌∷◌, ◌++◌, refl, sym, ap, ◌∙◌, Some, arith, IsUtf8, bytes_eq, true≢false, map, ⊎_elim, ◌⊎◌, inl, inr, ◌-◌, length, take, take_at, drop, subst, length-append}
 use Rattle.std.specs.List.{list_all, list_any}
 use Rattle.std.proofs.lemmas.Bool.{and_parts, cases_Bool, cond_both, cond-true, cond-false, or_from, not-true}
 use Rattle.std.proofs.lemmas.Slice.Eq.{bytes_eq-Decides}
@@ -10,9 +10,9 @@ use Rattle.enc_lex.specs.declared.kinds.Kind.TheVariants as k
 use Rattle.enc_lex.specs.declared.tokens.Token.{Token}
 use Rattle.enc_lex.specs.Bytes.{quote}
 use Rattle.enc_lex.specs.Words.{keywords, kind_in, kind_of_word}
-use Rattle.enc_lex.specs.Symbols.{symbols, symbol_in, symbol_of}
-use Rattle.enc_lex.specs.Values.{bytes_at, value_of, max_int, int_of, text_of, inside, unescaped, word_of}
-use Rattle.enc_lex.specs.Standing.{is_number, IsQuotable, Stands, name, int, text, symbol}
+use Rattle.enc_lex.specs.Symbols.{symbols, symbol_of}
+use Rattle.enc_lex.specs.Values.{bytes_at, value_of, int_of, text_of, inside, unescaped, word_of}
+use Rattle.enc_lex.specs.Standing.{IsQuotable, Stands, name, int, text, symbol}
 use Rattle.enc_lex.specs.Lexes.{StandsIn}
 use Rattle.enc_lex.proofs.SymbolLaws.{kind_holds_in}
 use Rattle.enc_lex.proofs.WordLaws.{bytes_eq_no}
@@ -107,3 +107,8 @@ text_quoted word rest (text between e is) =
     record { between = between; split = e; quotable = is; said = ap text_of e ∙ ap (unescaped false) (inside_quotes between) }
 text_quoted word rest (name spelled ok e named ends is) = absurd (no_text word is)
 text_quoted word rest (symbol e whole) = absurd (true≢false (symbol_closed word k.Text e))
+
+-- the token of a name has such a word
+pub name_token : (place : List ℕ) (token : Token) → StandsIn place token → token.kind ≡ k.Name → IsNameWord (bytes_at place token.span)
+name_token place token is named =
+    name_word (bytes_at place token.span) (drop token.span.end place) (subst (λ kind. Stands kind (bytes_at place token.span) (drop token.span.end place)) named is.stands)

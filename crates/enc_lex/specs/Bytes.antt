@@ -25,7 +25,7 @@ quote = 34
 abbrev pub slash : ℕ
 slash = 47
 
--- the digit of nothing
+-- the digit 0
 abbrev pub zero_digit : ℕ
 zero_digit = 48
 

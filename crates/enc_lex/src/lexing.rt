@@ -1,5 +1,5 @@
 // Reads a text into its tokens.
-ghost use Rattle.std.specs.Prelude.{◌≡◌, ◌≤◌, IfOk, IfErr, All, List, length, IsUtf8};
+ghost use Rattle.std.specs.Prelude.{◌≡◌, ◌≤◌, IfOk, IfErr, All, List, length};
 ghost use Rattle.enc_ast.specs.declared.rules.Reject.{Reject};
 ghost use Rattle.enc_lex.specs.declared.tokens.Token.{Token};
 ghost use Rattle.enc_lex.specs.Lexes.{max_len, Lexes, StandsIn, InOrder};

@@ -1,6 +1,6 @@
 // Texts between quotes.
 ghost use Rattle.std.specs.Prelude.{◌≡◌, false};
-ghost use Rattle.enc_lex.specs.Escapes.{escaped_byte, is_escape};
+ghost use Rattle.enc_lex.specs.Escapes.{escaped_byte};
 ghost use Rattle.enc_lex.specs.Reading.{text_end};
 
 /// The byte that a letter stands for behind a backslash, or `None` where it stands for none.

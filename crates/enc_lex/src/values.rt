@@ -16,21 +16,24 @@ pub fn bytes_at(text: &[u8], span: Span) -> &[u8]
     &text[start..end]
 }
 
-/// The value of an integer at its span. Of other bytes it means nothing, and no integer is too large for it.
+/// The value of an integer at its span. For more digits than an `i64` holds, as no integer of a text has,
+/// it is `i64::MAX`.
 pub fn int_value(text: &[u8], span: Span) -> i64
     ensures { result ≡ pos (int_of (bytes_at text.now span)) }
 {
     number(bytes_at(text, span)).min(MAX_INT) as i64
 }
 
-/// The bytes that a text between quotes stands for, each escape replaced by its byte.
+/// The bytes that a text between quotes stands for, each escape replaced by its byte. It fails only where
+/// memory runs out.
 pub fn text_bytes(alloc: Global, text: &[u8], span: Span) -> Result<Row<u8>, AllocError>
     ensures { IfOk result (λ bytes. bytes ≡ text_of (bytes_at text.now span)) }
 {
     unescape(alloc, inside(bytes_at(text, span)))
 }
 
-/// The word of a name at its span.
+/// The word of a name at its span. It fails only where memory runs out. Bytes that are not UTF-8, as no
+/// name has, are replaced as `String::from_utf8_lossy` does.
 pub fn word_of(alloc: Global, text: &[u8], span: Span) -> Result<Word, AllocError>
     ensures { IfOk result (λ word. word ≡ word_of (bytes_at text.now span)) }
 {

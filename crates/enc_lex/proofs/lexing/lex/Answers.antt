@@ -1,6 +1,5 @@
 -- What follows for the answer of a text.
-use Rattle.std.proofs.Common.{◌≡◌, List, length, subst, IfOk, IfErr, All}
-use Rattle.enc_lex.specs.declared.tokens.Token.{Token}
+use Rattle.std.proofs.Common.{length, subst, IfOk, IfErr, All}
 use Rattle.enc_lex.specs.Answers.{Fails}
 use Rattle.enc_lex.specs.Lexes.{Lexes, StandsIn, InOrder}
 use Rattle.enc_lex.proofs.OneAnswer.{lexes_in_order, lexes_stands, only_tokens, only_failure, ok_weaker}
