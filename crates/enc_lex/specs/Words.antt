@@ -1,5 +1,5 @@
 -- The words that the language has for itself, each with its kind.
-use Rattle.std.specs.Prelude.{ℕ, List, [], ◌∷◌, if◌then◌else◌, codes}
+use Rattle.std.specs.Prelude.{ℕ, not, ◌&&◌, ◌==◌, nat_le, List, [], ◌∷◌, length, filter, if◌then◌else◌, codes}
 use Rattle.std.specs.Str.{bytes_eq}
 use Rattle.enc_lex.specs.declared.kinds.Kind.{Kind}
 use Rattle.enc_lex.specs.declared.kinds.Kind.TheVariants as k
@@ -76,3 +76,11 @@ kind_in (entry ∷ entries) word = if bytes_eq word entry.0 then entry.1 else ki
 -- the keyword that a word is, or a name
 abbrev pub kind_of_word : List ℕ → Kind
 kind_of_word word = kind_in keywords word
+
+-- the keywords that are so long
+abbrev pub words_of_len : ℕ → List (List ℕ × Kind)
+words_of_len len = filter (λ entry. length entry.0 == len) keywords
+
+-- the keywords that have neither two letters nor six, nor a number between
+abbrev pub other_words : List (List ℕ × Kind)
+other_words = filter (λ entry. not (nat_le 2 (length entry.0) && nat_le (length entry.0) 6)) keywords
