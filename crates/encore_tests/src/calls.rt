@@ -5,7 +5,10 @@ use enc_ast::{
     Decl, Fail as Refusal, Program, Reject, Row, Rule, Span, TypeForm, Word, is_keyword, is_thin,
     place,
 };
-use enc_io::{Failed, Files, HostFiles, MemFiles, MemSink, ReadFail, Sink, read_all, write_all};
+use enc_io::{
+    Failed, Files, HostErr, HostFiles, HostNew, HostOut, MemFiles, MemSink, ReadFail, Sink,
+    read_all, write_all,
+};
 use enc_model::{
     Cell, Phase, Plain, StepFail, Stepped, TrapKind, Value, never_blocked, never_stuck, stops_soon,
 };
@@ -59,6 +62,14 @@ fn files_are_read(rt: HostRuntime) -> Result<(), Fail> {
     let missing = String::from_str(alloc, "no/such/file")?;
     assert_eq!(rt; host.begin(missing), Err(Failed));
     Ok(())
+}
+
+#[test]
+fn streams_of_the_system_are_called(rt: HostRuntime) {
+    assert_eq!(rt; HostOut::new(rt.stdout()).write(b"\n"), Ok(1));
+    assert_eq!(rt; HostErr::new(rt.stderr()).write(b"\n"), Ok(1));
+    let mut new = HostNew::new(&rt, "no/such/folder/file");
+    assert_eq!(rt; new.write(b"a"), Err(Failed));
 }
 
 #[test]
