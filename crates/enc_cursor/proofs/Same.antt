@@ -3,6 +3,9 @@ use Rattle.std.proofs.Common.{◌≡◌, Bool, true, false, cond, refl, inl, inr
 use Rattle.enc_ast.specs.declared.rules.Span.{Span}
 use Rattle.enc_cursor.specs.Counts.{Ending}
 use Rattle.enc_cursor.specs.Place.{Spot, recounted, peek, between}
+use Rattle.enc_cursor.specs.Limits.{Limits}
+use Rattle.enc_cursor.specs.Stretch.{Stretch}
+use Rattle.enc_cursor.proofs.Lawful.{Lawful, law_of_same}
 use Rattle.enc_cursor.specs.Steps.{Outcome, Got, Wrong, Over, Parser, Set, and_then, ◌<$>◌, wrong, ◌⊗◌, pick, spanned, closed}
 
 abbrev tuple : {A B : Type 0} → A → B → A × B
@@ -51,6 +54,10 @@ map_map f h (Over b) = refl
 
 pub map_twice : {A B C : Type 0} (f : A → B) (h : B → C) (p : Parser A) (a : Spot) → (h <$> (f <$> p)) a ≡ ((λ x. h (f x)) <$> p) a
 map_twice f h p a = map_map f h (p a)
+
+-- one function behind another, as one
+pub composed_lawful : {A B C : Type 0} {L : Limits} {S : C → Stretch} {F M : Set} (f : A → B) (h : B → C) (p : Parser A) → Lawful L S F M (h <$> (f <$> p)) → Lawful L S F M ((λ x. h (f x)) <$> p)
+composed_lawful f h p law = law_of_same ((λ x. h (f x)) <$> p) (map_twice f h p) law
 
 -- a function behind a choice with one arm
 pub map_only : {A B : Type 0} (f : A → B) (t : Set) (p : Parser A) (a : Spot) → (f <$> pick t p wrong) a ≡ pick t (f <$> p) wrong a

@@ -1,15 +1,13 @@
 -- How the loops of the code turn.
-use Rattle.std.proofs.Common.{◌≡◌, ℕ, suc, ◌-◌, ◌<◌, false, Option, Some, None, refl, arith}
+use Rattle.std.proofs.Common.{◌≡◌, ℕ, suc, ◌-◌, ◌<◌, false, None, refl, arith}
 use Rattle.enc_lex.specs.declared.kinds.Kind.{Kind}
 use Rattle.enc_cursor.specs.Limits.{Limits}
 use Rattle.enc_cursor.specs.Place.{is}
 use Rattle.enc_cursor.specs.Stretch.{Stretch}
-use Rattle.enc_cursor.specs.Steps.{Parser, Set, ◌▹◌, ◌⊗◌, spanned, can}
-use Rattle.enc_cursor.specs.Counted.{operator_of}
-use Rattle.enc_cursor.proofs.Lawful.{Lawful, Clear, none_of}
+use Rattle.enc_cursor.specs.Steps.{Parser, Set, ◌▹◌}
+use Rattle.enc_cursor.proofs.Lawful.{Lawful, Clear}
 use Rattle.enc_cursor.proofs.Many.{TurnsSo, many_turn}
-use Rattle.enc_cursor.proofs.Words.{pair_lawful, after_lawful, spanned_law}
-use Rattle.enc_cursor.proofs.Names.{operator_lawful}
+use Rattle.enc_cursor.proofs.Words.{after_lawful}
 use Rattle.enc_cursor.proofs.Openings.{Inside}
 
 -- one less than a number that is not zero
@@ -23,7 +21,3 @@ separated_turns k law end clear = many_turn (is k) refl end (λ l e. e) clear (a
 -- the same inside brackets
 pub inside_turns : {A : Type 0} {L : Limits} {room : ℕ} {S : A → Stretch} {F M : Set} {p : Parser A} (k : Kind) → Inside L room S F M p → M None ≡ false → Clear (is k) M → 0 < room → TurnsSo (is k) (k ▹ p)
 inside_turns {A} {L} {room} k inside end clear h = separated_turns k (inside.law (room - 1) (one_less room h)) end clear
-
--- operators and their right operands; k is one of the operators
-pub operator_turns : {O E : Type 0} {L : Limits} {S : E → Stretch} {F M : Set} {p : Parser E} (w : Kind → Option O) (k : Kind) (o : O) → w k ≡ Some o → Lawful L S F M p → M None ≡ false → Clear F none_of → Clear (can w) M → TurnsSo (can w) (spanned (operator_of L.counts w ⊗ p))
-operator_turns w k o has law end clear off = many_turn (can w) refl end (λ l e. e) off (spanned_law (pair_lawful (operator_lawful w k o has) law clear) refl end)

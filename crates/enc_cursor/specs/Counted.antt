@@ -6,9 +6,9 @@ use Rattle.enc_lex.specs.declared.kinds.Kind.{Kind}
 use Rattle.enc_lex.specs.declared.kinds.Kind.TheVariants as k
 use Rattle.enc_cursor.specs.Counts.{Counts, Rule, plain, operator, bracketed_group}
 use Rattle.enc_cursor.specs.Limits.{Allowed, with_brackets, at_most, fits}
-use Rattle.enc_cursor.specs.Place.{Spot, recounted, head, peek, is}
+use Rattle.enc_cursor.specs.Place.{Spot, recounted, head, peek, is, start}
 use Rattle.enc_cursor.specs.Stretch.{by_kind}
-use Rattle.enc_cursor.specs.Steps.{Outcome, Got, Wrong, Over, Parser, both, next}
+use Rattle.enc_cursor.specs.Steps.{Outcome, Got, Wrong, Over, Parser, Item, joined, both, next, ◌<$>◌, ◌>>=◌, ◌⊗◌, many, spanned, can}
 
 -- whether a token has room
 abbrev pub Test : Type 0
@@ -98,3 +98,11 @@ operator_of C w = marked operator (room_for C operator) (by_kind w)
 -- an operator that has been seen
 unfoldable pub counted_operator : Allowed → Parser (Unit {0})
 counted_operator C = λ a. go_on (room_for C operator (next a).last (next a).counts) tt (counted_next operator a) (next a)
+
+-- the operators behind a left operand that starts there, each with its right operand
+abbrev pub level_after : {O E : Type 0} → (ℕ → E → Item O E → E) → Allowed → (Kind → Option O) → Parser E → ℕ → E → Parser E
+level_after join C w p from x = joined join from x <$> many (can w) (spanned (operator_of C w ⊗ p))
+
+-- an operand, and the operators behind it
+abbrev pub level : {O E : Type 0} → (ℕ → E → Item O E → E) → Allowed → (Kind → Option O) → Parser E → Parser E
+level join C w p = λ a. (p >>= level_after join C w p (start a)) a
