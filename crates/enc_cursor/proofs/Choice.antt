@@ -118,9 +118,9 @@ module _ {A : Type 0} {L : Limits} {S : A → Stretch} {F M : Set} {p : Parser A
         front = s.front;
         split = rw (place_then o Some) s.split;
         peeks = λ w h. s.peeks w (near_then o Some w h);
-        same = λ w h. let h1 = near_then o Some w h in
-            ap (λ (b : Bool). cond b (and_then (p (upon a (s.front ++ w))) (λ x b. Got (Some x) b)) (Got None (upon a (s.front ++ w)))) (ap (λ (o : Option Token). t (kind_of o)) (s.peeks w h1) ∙ e)
-            ∙ ap (λ (r : Outcome A). and_then r (λ x b. Got (Some x) b)) (s.same w h1) ∙ moved_then o Some w;
+        same = λ w h. let near = near_then o Some w h in
+            ap (λ (b : Bool). cond b (and_then (p (upon a (s.front ++ w))) (λ x b. Got (Some x) b)) (Got None (upon a (s.front ++ w)))) (ap (λ (o : Option Token). t (kind_of o)) (s.peeks w near) ∙ e)
+            ∙ ap (λ (r : Outcome A). and_then r (λ x b. Got (Some x) b)) (s.same w near) ∙ moved_then o Some w;
         tells = tells s.front o s.tells;
       }
   optional_stays a false e = record {

@@ -1,22 +1,21 @@
 -- The laws of what stands inside brackets.
-use Rattle.std.proofs.Common.{◌≡◌, ℕ, true, false, List, [], ◌∷◌, ◌++◌, Option, None, refl, sym, subst, append_assoc}
+use Rattle.std.proofs.Common.{◌≡◌, ℕ, true, false, List, [], ◌∷◌, ◌++◌, Option, None, refl, sym, subst, append_assoc, inl, inr}
 use Rattle.std.specs.Prelude.{not}
 use Rattle.enc_lex.specs.declared.kinds.Kind.{Kind}
 use Rattle.enc_cursor.specs.Counts.{plain, Ending}
 use Rattle.enc_cursor.specs.Limits.{Limits}
 use Rattle.enc_cursor.specs.Place.{Tokens, Place, place, upon, recounted, is, between}
 use Rattle.enc_cursor.specs.Stretch.{Stretch, the, Each, After, Before, Separated, Maybe, Closed, Spanned}
-use Rattle.enc_cursor.specs.Steps.{Parser, Set, both, ◌<$>◌, ◌▹◌, ◌◃◌, optional, many, separated, spanned, closed}
+use Rattle.enc_cursor.specs.Steps.{Parser, Set, both, ◌<$>◌, ◌▹◌, ◌◃◌, ◌⊗◌, pick, optional, many, separated, spanned, closed}
 use Rattle.enc_cursor.proofs.Lawful.{Later, Lawful, Clear, none_of, clear_none, or, Within, later_then, with_sets}
 use Rattle.enc_cursor.proofs.Sequence.{both_lawful, as_lawful}
 use Rattle.enc_cursor.proofs.Choice.{or_past, maybe_later, optional_lawful}
 use Rattle.enc_cursor.proofs.Endings.{closed_later, closed_lawful}
 use Rattle.enc_cursor.proofs.Spans.{spanned_lawful}
 use Rattle.enc_cursor.proofs.Many.{each_later, past_item, many_lawful}
-use Rattle.enc_cursor.proofs.Words.{Image}
+use Rattle.enc_cursor.proofs.Words.{Image, Pair, Union, union_lawful}
 use Rattle.enc_cursor.proofs.Tokens.{marked_later, token_lawful}
 use Rattle.enc_cursor.proofs.Openings.{Inside}
-use Rattle.enc_cursor.proofs.Sets.{clear}
 
 -- what is lawful anyway
 pub inside_of : {A : Type 0} {L : Limits} {S : A → Stretch} {F M : Set} {p : Parser A} (room : ℕ) → Lawful L S F M p → Inside L room S F M p
@@ -39,6 +38,22 @@ module _ {A B C : Type 0} {L : Limits} {room : ℕ} {S1 : A → Stretch} {S2 : B
           (g h.0 k.0, k.1, k.2, subst (λ (v : Tokens). S (g h.0 k.0) (place (upon a v) l) (place (upon k.1 r) k.2)) (sym (append_assoc one.sample.0 two.sample.0 r)) (intro h.0 k.0 _ _ _ h.3 k.3)),
     );
   }
+
+-- two parts
+pub inside_pair : {A B : Type 0} {L : Limits} {room : ℕ} {S1 : A → Stretch} {S2 : B → Stretch} {F1 M1 F2 M2 : Set} {p : Parser A} {q : Parser B} → Inside L room S1 F1 M1 p → Inside L room S2 F2 M2 q → Clear F2 M1 → Inside L room (Pair S1 S2) F1 M2 (p ⊗ q)
+inside_pair {A} {B} {L} {room} {S1} {S2} one two clear = inside_both (λ x y. (x, y)) (Pair S1 S2) (λ x y a b c s t. (b, s, t)) (λ z a c s. (z.0, z.1, s.0, refl, s.1, s.2)) clear one two
+
+-- a choice by the next token
+pub inside_union : {A : Type 0} {L : Limits} {room : ℕ} {S1 S2 : A → Stretch} {F1 M1 F2 M2 : Set} {p q : Parser A} (t : Set) → Inside L room S1 F1 M1 p → Inside L room S2 F2 M2 q → Within F1 t → Clear F2 t → Inside L room (Union S1 S2) (or F1 F2) (or M1 M2) (pick t p q)
+inside_union {A} {L} {room} {S1} {S2} t one two on off = record {
+  law = λ r e. union_lawful t (one.law r e) (two.law r e) on off;
+  later = later;
+  sample = (one.sample.0, λ a r l. let h = one.sample.1 a r l in (h.0, h.1, h.2, inl h.3));
+}
+  where
+    later : (a b : Place) (x : A) → Union S1 S2 x a b → Later a b
+    later a b x (inl s) = one.later a b x s
+    later a b x (inr s) = two.later a b x s
 
 pub inside_before : {A : Type 0} {L : Limits} {room : ℕ} {S : A → Stretch} {F M : Set} {p : Parser A} (k : Kind) → Inside L room S F M p → Clear (is k) M → Inside L room (Before k S) F none_of (p ◃ k)
 inside_before {A} {L} {room} {S} k law clear = inside_both (λ x _. x) (Before k S) (λ x y a b c s t. (b, s, t)) (λ z a c s. (z, tt, s.0, refl, s.1, s.2)) clear law (inside_of room (token_lawful k))

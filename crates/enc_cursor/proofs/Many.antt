@@ -11,7 +11,6 @@ use Rattle.enc_cursor.proofs.Lawful.{place_of, moved, Near, Fine, Meets, Later, 
 use Rattle.enc_cursor.proofs.Sequence.{moved_then, place_then, near_then}
 use Rattle.enc_cursor.proofs.Choice.{or_past, not_false}
 use Rattle.enc_cursor.proofs.Spans.{solid}
-use Rattle.enc_cursor.proofs.Sets.{clear}
 
 -- one turn of a loop
 abbrev pub TurnsSo : {A : Type 0} → Set → Parser A → Type 0
@@ -59,20 +58,20 @@ module _ {A : Type 0} {L : Limits} {S : A → Stretch} {F M : Set} {p : Parser A
     front = u ++ s.front;
     split = rw (place_then o (λ xs. x ∷ xs)) (split ∙ ap (λ (v : Tokens). u ++ v) s.split ∙ sym (append_assoc u s.front (place_of o).ahead));
     peeks = λ w h. ap head (append_assoc u s.front w) ∙ peeks (s.front ++ w) (s.peeks w (near_then o (λ xs. x ∷ xs) w h));
-    same = λ w h n lt. let h1 = near_then o (λ xs. x ∷ xs) w h in
-        ap (λ (v : Tokens). many_from t p n (upon a v)) (append_assoc u s.front w) ∙ steps w h1 n (subst (λ (v : Tokens). length v < n) (append_assoc u s.front w) lt);
+    same = λ w h n lt. let near = near_then o (λ xs. x ∷ xs) w h in
+        ap (λ (v : Tokens). many_from t p n (upon a v)) (append_assoc u s.front w) ∙ steps w near n (subst (λ (v : Tokens). length v < n) (append_assoc u s.front w) lt);
     tells = tells o s.front s.tells;
   }
     where
       steps : (w : Tokens) → Near o w → (n : ℕ) → length (u ++ (s.front ++ w)) < n → many_from t p n (upon a (u ++ (s.front ++ w))) ≡ moved (and_then o (λ xs c. Got (x ∷ xs) c)) w
       steps w h zero lt = absurd (omega arith)
       steps w h (suc n) lt =
-          let h2 = s.peeks w h in
+          let near_rest = s.peeks w h in
           let less : length (s.front ++ w) < length (u ++ (s.front ++ w)) = shorter x a b u reads (s.front ++ w) in
           let fits : length (s.front ++ w) < n = omega arith in
           many_suc n (upon a (u ++ (s.front ++ w)))
-          ∙ ap (λ (b : Bool). turn (many_from t p n) b (upon a (u ++ (s.front ++ w)))) (ap (λ (o : Option Token). t (kind_of o)) (peeks (s.front ++ w) h2) ∙ e)
-          ∙ ap (λ (r : Outcome A). and_then r (λ x b. and_then (many_from t p n b) (λ xs c. Got (x ∷ xs) c))) (same (s.front ++ w) h2)
+          ∙ ap (λ (b : Bool). turn (many_from t p n) b (upon a (u ++ (s.front ++ w)))) (ap (λ (o : Option Token). t (kind_of o)) (peeks (s.front ++ w) near_rest) ∙ e)
+          ∙ ap (λ (r : Outcome A). and_then r (λ x b. and_then (many_from t p n b) (λ xs c. Got (x ∷ xs) c))) (same (s.front ++ w) near_rest)
           ∙ ap (λ (r : Outcome (List A)). and_then r (λ xs c. Got (x ∷ xs) c)) (s.same w h n fits)
           ∙ moved_then o (λ xs. x ∷ xs) w
 

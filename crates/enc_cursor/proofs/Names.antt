@@ -1,14 +1,15 @@
 -- Names and operators, with what they count as.
-use Rattle.std.proofs.Common.{◌≡◌, ℕ, Bool, true, false, Option, Some, refl, ap}
+use Rattle.std.proofs.Common.{◌≡◌, ℕ, Bool, true, false, Option, Some, None, refl, ap, ◌∙◌}
 use Rattle.enc_ast.specs.declared.rules.Span.{Span}
+use Rattle.enc_lex.specs.declared.tokens.Token.{Token}
 use Rattle.enc_lex.specs.declared.kinds.Kind.{Kind}
 use Rattle.enc_cursor.specs.Counts.{Counts, Rule, plain, word, bracket, operator, variable, declared, group, trait_, group_rules}
 use Rattle.enc_cursor.specs.Limits.{Limits, fits}
-use Rattle.enc_cursor.specs.Place.{Place, is}
+use Rattle.enc_cursor.specs.Place.{Spot, Place, head, kind_of, peek, is}
 use Rattle.enc_cursor.specs.Stretch.{of_kind, span_of, the, by_kind, IsMarked, IsToken, IsOpening, IsOneOf, IsNameBy}
-use Rattle.enc_cursor.specs.Steps.{◌<$>◌, is_some, can}
-use Rattle.enc_cursor.specs.Counted.{room_for, name_by, operator_of}
-use Rattle.enc_cursor.proofs.Lawful.{Later, Lawful, none_of, later_then}
+use Rattle.enc_cursor.specs.Steps.{◌<$>◌, stands_for, is_some, can}
+use Rattle.enc_cursor.specs.Counted.{always, meaning, marked_if, marked, found_if, kind_token, room_for, name_by, operator_of}
+use Rattle.enc_cursor.proofs.Lawful.{Later, Lawful, none_of, later_then, law_of_same}
 use Rattle.enc_cursor.proofs.Tokens.{marked_later, marked_lawful, seen_lawful, span_lawful}
 use Rattle.enc_lex.specs.declared.kinds.Kind.TheVariants as k
 
@@ -48,6 +49,25 @@ group_lawful false = word_lawful
 pub operator_lawful : {X : Type 0} {L : Limits} (w : Kind → Option X) (k : Kind) (x : X) → w k ≡ Some x → Lawful L (IsOneOf w) (can w) none_of (operator_of L.counts w)
 unfolding operator_of
 operator_lawful {X} {L} w k x has = marked_lawful operator (room_for L.counts operator) (by_kind w) (can w) (λ t y e. ap is_some e) (record { kind = k; span = record { start = 0; end = 0 } }) x has L (λ v c. refl)
+
+-- ---- tokens of several kinds
+
+-- what the next token stands for by its kind
+pub by_kind_is : {O : Type 0} (w : Kind → Option O) (t : Option Token) → meaning (by_kind w) t ≡ stands_for w (kind_of t)
+by_kind_is w None = refl
+by_kind_is w (Some t) = refl
+
+kind_token_is : {X : Type 0} (w : Kind → Option X) (a : Spot) → marked plain always (by_kind w) a ≡ kind_token w a
+unfolding marked kind_token
+kind_token_is {X} w a = ap (λ (m : Option X). marked_if plain always m a) (by_kind_is w (head a.ahead)) ∙ go (stands_for w (peek a))
+  where
+    go : (m : Option X) → marked_if plain always m a ≡ found_if m a
+    go None = refl
+    go (Some x) = refl
+
+-- a token of these kinds, of which k is one
+pub kind_token_lawful : {X : Type 0} {L : Limits} (w : Kind → Option X) (k : Kind) (x : X) → w k ≡ Some x → Lawful L (IsMarked plain (by_kind w)) (can w) none_of (kind_token w)
+kind_token_lawful w k x has = law_of_same (kind_token w) (kind_token_is w) (marked_lawful plain always (by_kind w) (can w) (λ t y e. ap is_some e) (record { kind = k; span = record { start = 0; end = 0 } }) x has _ (λ v c. refl))
 
 -- ---- each token is counted once
 

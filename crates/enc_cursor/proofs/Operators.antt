@@ -5,19 +5,16 @@ use Rattle.enc_lex.specs.declared.kinds.Kind.{Kind}
 use Rattle.enc_cursor.specs.declared.error.ParseError.{ParseError}
 use Rattle.enc_cursor.specs.Counts.{operator}
 use Rattle.enc_cursor.specs.Limits.{Allowed, Limits}
-use Rattle.enc_cursor.specs.Place.{Spot, head, kind_of, peek, between}
-use Rattle.enc_cursor.specs.Stretch.{Stretch, by_kind}
+use Rattle.enc_cursor.specs.Place.{Spot, head, peek, between}
+use Rattle.enc_cursor.specs.Stretch.{Stretch}
 use Rattle.enc_cursor.specs.Steps.{Outcome, Got, Wrong, Over, Parser, Set, and_then, ◌<$>◌, next, ◌⊗◌, optional, many, spanned, stands_for, is_some, can, Item, joined, join_any}
-use Rattle.enc_cursor.specs.Counted.{room_for, meaning, go_on, counted_next, marked_if, marked, operator_of, counted_operator}
+use Rattle.enc_cursor.specs.Counted.{room_for, go_on, counted_next, marked_if, marked, operator_of, counted_operator}
 use Rattle.enc_cursor.specs.Cursor.{Reads}
 use Rattle.enc_cursor.proofs.Lawful.{Lawful, got_place}
 use Rattle.enc_cursor.proofs.Many.{TurnsSo}
 use Rattle.enc_cursor.proofs.Tokens.{counts_on, counted_at}
+use Rattle.enc_cursor.proofs.Names.{by_kind_is}
 use Rattle.enc_cursor.proofs.Loops.{fails_as, fails_so, never_back, next_shorter, there_is}
-
-by_kind_is : {O : Type 0} (w : Kind → Option O) (t : Option Token) → meaning (by_kind w) t ≡ stands_for w (kind_of t)
-by_kind_is w None = refl
-by_kind_is w (Some t) = refl
 
 -- an operator that is seen is counted
 pub accepts_at : {O : Type 0} (C : Allowed) (w : Kind → Option O) (a : Spot) (o : O) → stands_for w (peek a) ≡ Some o → operator_of C w a ≡ and_then (counted_operator C a) (λ u b. Got o b)

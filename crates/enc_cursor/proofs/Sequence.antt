@@ -34,10 +34,10 @@ module _ {A B C : Type 0} {L : Limits} {S1 : A → Stretch} {S2 : B → Stretch}
     front = u ++ s.front;
     split = rw (place_then o (g x)) (split ∙ ap (λ (v : Tokens). u ++ v) s.split ∙ sym (append_assoc u s.front (place_of o).ahead));
     peeks = λ w h. ap head (append_assoc u s.front w) ∙ peeks (s.front ++ w) (s.peeks w (near_then o (g x) w h));
-    same = λ w h. let h1 = near_then o (g x) w h in
+    same = λ w h. let near = near_then o (g x) w h in
         ap (λ (v : Tokens). both g p q (upon a v)) (append_assoc u s.front w)
-        ∙ ap (λ (r : Outcome A). and_then r (λ x b. and_then (q b) (λ y c. Got (g x y) c))) (same (s.front ++ w) (s.peeks w h1))
-        ∙ ap (λ (r : Outcome B). and_then r (λ y c. Got (g x y) c)) (s.same w h1) ∙ moved_then o (g x) w;
+        ∙ ap (λ (r : Outcome A). and_then r (λ x b. and_then (q b) (λ y c. Got (g x y) c))) (same (s.front ++ w) (s.peeks w near))
+        ∙ ap (λ (r : Outcome B). and_then r (λ y c. Got (g x y) c)) (s.same w near) ∙ moved_then o (g x) w;
     tells = tells o s.front s.tells;
   }
     where

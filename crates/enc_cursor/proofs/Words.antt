@@ -11,7 +11,6 @@ use Rattle.enc_cursor.proofs.Choice.{pick_lawful, or_past, optional_lawful}
 use Rattle.enc_cursor.proofs.Spans.{spanned_lawful}
 use Rattle.enc_cursor.proofs.Many.{item_past, many_lawful}
 use Rattle.enc_cursor.proofs.Tokens.{token_lawful}
-use Rattle.enc_cursor.proofs.Sets.{clear}
 
 -- two parts
 abbrev pub Pair : {A B : Type 0} → (A → Stretch) → (B → Stretch) → A × B → Stretch

@@ -8,7 +8,7 @@ use Rattle.enc_cursor.specs.Counts.{Counts, Rule, plain, operator, bracketed_gro
 use Rattle.enc_cursor.specs.Limits.{Allowed, with_brackets, at_most, fits}
 use Rattle.enc_cursor.specs.Place.{Spot, recounted, head, peek, is, start}
 use Rattle.enc_cursor.specs.Stretch.{by_kind}
-use Rattle.enc_cursor.specs.Steps.{Outcome, Got, Wrong, Over, Parser, Item, joined, both, next, ◌<$>◌, ◌>>=◌, ◌⊗◌, many, spanned, can}
+use Rattle.enc_cursor.specs.Steps.{Outcome, Got, Wrong, Over, Parser, Item, joined, both, next, ◌<$>◌, ◌>>=◌, ◌⊗◌, many, spanned, can, stands_for}
 
 -- whether a token has room
 abbrev pub Test : Type 0
@@ -44,6 +44,15 @@ marked_if r ok (Some x) = λ a. go_on (ok (next a).last (next a).counts) x (coun
 -- a token that stands for something, counted by the rule
 unfoldable pub marked : {X : Type 0} → Rule → Test → (Token → Option X) → Parser X
 marked r ok f = λ a. marked_if r ok (meaning f (head a.ahead)) a
+
+-- the next token, whose kind stands for this
+abbrev pub found_if : {X : Type 0} → Option X → Parser X
+found_if None = λ a. Wrong a
+found_if (Some x) = λ a. Got x (next a)
+
+-- a token whose kind stands for something
+unfoldable pub kind_token : {X : Type 0} → (Kind → Option X) → Parser X
+kind_token w = λ a. found_if (stands_for w (peek a)) a
 
 -- a token of this kind, counted by the rule, and its span
 unfoldable pub seen : Rule → Test → Kind → Parser Span
