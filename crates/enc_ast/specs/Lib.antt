@@ -2,5 +2,4 @@ pub mod Keywords
 pub mod Lending
 pub mod Place
 pub mod Rules
-pub mod Scope
 pub mod Thin

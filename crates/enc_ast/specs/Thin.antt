@@ -1,5 +1,5 @@
 -- Programs in the thin form: one active class whose method `main` computes with integers and prints.
-use Rattle.std.specs.Prelude.{◌&&◌, ℕ, Bool, true, false, not, List, [], ◌∷◌, ◌++◌, length, nat_le, codes}
+use Rattle.std.specs.Prelude.{◌&&◌, ◌||◌, ℕ, Bool, true, false, not, List, [], ◌∷◌, ◌++◌, length, nat_le, codes, if◌then◌else◌}
 use Rattle.std.specs.List.{list_any, list_all}
 use Rattle.std.specs.Str.{bytes_eq}
 use Rattle.enc_ast.specs.declared.decls.Program.{Program}
@@ -12,13 +12,15 @@ use Rattle.enc_ast.specs.declared.types.TypeForm.{TypeForm, out-TypeForm}
 use Rattle.enc_ast.specs.declared.types.TypeForm.TheOpen.{TypeForm-F}
 use Rattle.enc_ast.specs.declared.types.TypeText.{TypeText}
 use Rattle.enc_ast.specs.declared.stmts.Stmt.{Stmt}
-use Rattle.enc_ast.specs.declared.stmts.StmtForm.{StmtForm}
-use Rattle.enc_ast.specs.declared.stmts.StmtForm.TheVariants.{Let, Print}
-use Rattle.enc_ast.specs.declared.stmts.SourceForm.{SourceForm}
-use Rattle.enc_ast.specs.declared.stmts.SourceForm.TheVariants as sources
-use Rattle.enc_ast.specs.declared.exprs.Expr.{Expr}
+use Rattle.enc_ast.specs.declared.stmts.StmtForm.{StmtForm, out-StmtForm}
+use Rattle.enc_ast.specs.declared.stmts.StmtForm.TheOpen.{StmtForm-F}
+use Rattle.enc_ast.specs.declared.sources.SourceForm.{SourceForm}
+use Rattle.enc_ast.specs.declared.sources.SourceForm.TheVariants as sources
+use Rattle.enc_ast.specs.declared.exprs.Expr.{Expr, fold-Expr}
 use Rattle.enc_ast.specs.declared.exprs.ExprForm.{ExprForm, out-ExprForm}
 use Rattle.enc_ast.specs.declared.exprs.ExprForm.TheOpen.{ExprForm-F}
+use Rattle.enc_ast.specs.declared.exprs.Operator.{Operator}
+use Rattle.enc_ast.specs.declared.exprs.Operator.TheVariants as operators
 
 -- ---- expressions, where the variables of these names are bound
 
@@ -26,52 +28,68 @@ use Rattle.enc_ast.specs.declared.exprs.ExprForm.TheOpen.{ExprForm-F}
 abbrev pub is_among : List (List ℕ) → List ℕ → Bool
 is_among names word = list_any (λ name. bytes_eq name word) names
 
+-- What an expression is to the thin form, whatever brackets stand round it or its parts.
+pub data Shape : Type 0 where
+  -- an integer, or a variable
+  Part : Shape
+  -- two parts with `+`, `-` or `*` between
+  Sum : Shape
+  -- whatever the thin form has not
+  Other : Shape
+
+-- one of the three operators `+`, `-` and `*`
+abbrev pub is_arithmetic : Operator → Bool
+is_arithmetic operators.Add = true
+is_arithmetic operators.Subtract = true
+is_arithmetic operators.Multiply = true
+is_arithmetic _ = false
+
+-- the shape of an operator between two operands of these shapes
+abbrev pub between : Operator → Shape → Shape → Shape
+between operator Part Part = if is_arithmetic operator then Sum else Other
+between operator _ _ = Other
+
+-- the shape of one level of an expression, from those of what stands inside
+abbrev pub layer_shape : List (List ℕ) → ExprForm-F Shape Shape → Shape
+layer_shape names (ExprForm-F.Int value) = Part
+layer_shape names (ExprForm-F.Name word) = if is_among names word then Part else Other
+layer_shape names (ExprForm-F.Parens inside) = inside
+layer_shape names (ExprForm-F.Binary operator left right) = between operator left right
+layer_shape names _ = Other
+
+-- the shape of an expression
+unfoldable pub shape_of : List (List ℕ) → Expr → Shape
+shape_of names = fold-Expr Shape Shape (layer_shape names) (λ node. node.form)
+
+-- a part or a sum
+abbrev pub is_number : Shape → Bool
+is_number Part = true
+is_number Sum = true
+is_number Other = false
+
+-- an expression whose value is a number: a part, or a sum of two
+abbrev pub is_sum : List (List ℕ) → Expr → Bool
+is_sum names expr = is_number (shape_of names expr)
+
 -- one level of an expression
 abbrev pub Layer : Type 0
 Layer = ExprForm-F ExprForm Expr
 
--- one level of a type
-abbrev pub TypeLayer : Type 0
-TypeLayer = TypeForm-F TypeForm TypeText
+-- a text, by its outer level
+abbrev pub is_text_layer : Layer → Bool
+is_text_layer (ExprForm-F.Text bytes) = true
+is_text_layer _ = false
 
--- an integer or a variable, by its outer level
-abbrev pub is_part_layer : List (List ℕ) → Layer → Bool
-is_part_layer names (ExprForm-F.Int value) = true
-is_part_layer names (ExprForm-F.Name word) = is_among names word
-is_part_layer names (ExprForm-F.Text bytes) = false
-is_part_layer names (ExprForm-F.Binary operator left right) = false
-
--- an integer, or a variable
-abbrev pub is_part : List (List ℕ) → Expr → Bool
-is_part names expr = is_part_layer names (out-ExprForm expr.form)
-
--- a part or two with an operator between, by its outer level
-abbrev pub is_sum_layer : List (List ℕ) → Layer → Bool
-is_sum_layer names (ExprForm-F.Int value) = true
-is_sum_layer names (ExprForm-F.Name word) = is_among names word
-is_sum_layer names (ExprForm-F.Text bytes) = false
-is_sum_layer names (ExprForm-F.Binary operator left right) = is_part names left && is_part names right
-
--- a part, or two with an operator between
-abbrev pub is_sum : List (List ℕ) → Expr → Bool
-is_sum names expr = is_sum_layer names (out-ExprForm expr.form)
-
--- a sum or a text, by its outer level
-abbrev pub is_item_layer : List (List ℕ) → Layer → Bool
-is_item_layer names (ExprForm-F.Text bytes) = true
-is_item_layer names (ExprForm-F.Int value) = true
-is_item_layer names (ExprForm-F.Name word) = is_among names word
-is_item_layer names (ExprForm-F.Binary operator left right) = is_part names left && is_part names right
-
--- what can be printed: a sum, or a text
+-- what can be printed: a text, or a sum
 abbrev pub is_item : List (List ℕ) → Expr → Bool
-is_item names expr = is_item_layer names (out-ExprForm expr.form)
+is_item names expr = is_text_layer (out-ExprForm expr.form) || is_sum names expr
 
 -- ---- statements
 
--- whether a new variable is bound to an integer, a variable or a sum of two parts
+-- whether a new variable is bound to a sum
 abbrev pub is_sum_source : List (List ℕ) → SourceForm → Bool
 is_sum_source names (sources.Expr expr) = is_sum names expr
+is_sum_source names _ = false
 
 -- a name that no variable has, and not that of the parameter
 abbrev pub is_free : List (List ℕ) → List ℕ → Bool
@@ -82,15 +100,28 @@ abbrev pub is_some_items : List (List ℕ) → List Expr → Bool
 is_some_items names [] = false
 is_some_items names (item ∷ items) = list_all (is_item names) (item ∷ items)
 
+-- one level of a statement
+abbrev pub StmtLayer : Type 0
+StmtLayer = StmtForm-F StmtForm Stmt
+
+-- a binding of a free name, or a print of some items, by its outer level
+abbrev pub is_line_layer : List (List ℕ) → StmtLayer → Bool
+is_line_layer names (StmtForm-F.Let name source) = is_free names name.word && is_sum_source names source.form
+is_line_layer names (StmtForm-F.Print items) = is_some_items names items
+is_line_layer names _ = false
+
 -- a binding of a free name, or a print of some items
 abbrev pub is_line : List (List ℕ) → StmtForm → Bool
-is_line names (Let name source) = is_free names name.word && is_sum_source names source.form
-is_line names (Print items) = is_some_items names items
+is_line names form = is_line_layer names (out-StmtForm form)
+
+-- the variables that are bound after the statement, by its outer level
+abbrev pub bound_after_layer : List (List ℕ) → StmtLayer → List (List ℕ)
+bound_after_layer names (StmtForm-F.Let name source) = names ++ name.word ∷ []
+bound_after_layer names _ = names
 
 -- the variables that are bound after the statement
 abbrev pub bound_after : List (List ℕ) → StmtForm → List (List ℕ)
-bound_after names (Let name source) = names ++ name.word ∷ []
-bound_after names (Print items) = names
+bound_after names form = bound_after_layer names (out-StmtForm form)
 
 -- the statements of a body, at most 254 of which bind a variable
 abbrev pub is_body : List (List ℕ) → List Stmt → Bool
@@ -98,6 +129,10 @@ is_body names [] = nat_le (length names) 254
 is_body names (stmt ∷ stmts) = is_line names stmt.form && is_body (bound_after names stmt.form) stmts
 
 -- ---- programs
+
+-- one level of a type
+abbrev pub TypeLayer : Type 0
+TypeLayer = TypeForm-F TypeForm TypeText
 
 -- the type of integers, by its outer level
 abbrev pub is_int_layer : TypeLayer → Bool
@@ -157,10 +192,10 @@ abbrev pub first_body : List Method → List Stmt
 first_body [] = []
 first_body (method ∷ methods) = method.body
 
--- the statements of the first method of the first class, or none
+-- the statements of the first method of an active class that comes first, or none
 abbrev pub main_body : List Decl → List Stmt
-main_body [] = []
 main_body (Active class ∷ decls) = first_body class.methods
+main_body _ = []
 
 -- the statements of `main`
 abbrev pub body_of : Program → List Stmt

@@ -3,7 +3,7 @@
 use crate::{Row, Span, Stmt, TypeText, Word};
 
 /// A program: its declarations in the order of the text.
-#[derive(Debug, Drop)]
+#[derive(Drop)]
 pub struct Program {
     pub decls: Row<Decl>,
     /// The whole text.
@@ -14,26 +14,64 @@ impl Program {
     ghost use Rattle.std.specs.Prelude.{◌≡◌};
     ghost use Rattle.enc_ast.specs.Thin.{body_of};
 
-    /// The statements of the first method of the first class, or none where there is no such method.
-    /// In the thin form that method is `main`.
+    /// The statements of the first method of an active class that comes first, or none where there is
+    /// no such method. In the thin form that method is `main`.
     pub fn body(&self) -> &[Stmt]
         ensures { result.now ≡ body_of self.now }
     {
         match self.decls.get(0) {
             Some(Decl::Active(class)) => class.first_body(),
-            None => &[],
+            _ => &[],
         }
     }
 }
 
 /// One declaration of a program.
-#[derive(Debug, Drop)]
+#[derive(Drop)]
 pub enum Decl {
+    Trait(TraitDecl),
+    Class(ClassDecl),
     Active(ActiveDecl),
+    /// A function, which stands by itself and has no `this`.
+    Fun(Method),
+}
+
+/// A trait: fields and methods, and the mode of the references that have it.
+#[derive(Drop)]
+pub struct TraitDecl {
+    pub mode: ModeWord,
+    pub name: Name,
+    pub fields: Row<Field>,
+    pub methods: Row<Method>,
+    pub span: Span,
+}
+
+/// How the references of a trait may be used.
+#[derive(Clone, Copy, Debug, PartialEq, Eq)]
+pub enum ModeWord {
+    Linear,
+    Local,
+    Read,
+    Subordinate,
+}
+
+/// A class of passive objects, as the groups of traits that it is made of.
+#[derive(Drop)]
+pub struct ClassDecl {
+    pub name: Name,
+    pub groups: Row<GroupText>,
+    pub span: Span,
+}
+
+/// One trait, or a disjunction of several in brackets.
+#[derive(Drop)]
+pub struct GroupText {
+    pub names: Row<Name>,
+    pub span: Span,
 }
 
 /// A class of objects that have their own thread of control.
-#[derive(Debug, Drop)]
+#[derive(Drop)]
 pub struct ActiveDecl {
     pub name: Name,
     pub fields: Row<Field>,
@@ -56,15 +94,15 @@ impl ActiveDecl {
 }
 
 /// A field of an object, with its type.
-#[derive(Debug, Drop)]
+#[derive(Drop)]
 pub struct Field {
     pub name: Name,
     pub ty: TypeText,
     pub span: Span,
 }
 
-/// A method with its body.
-#[derive(Debug, Drop)]
+/// A method of a trait or of an active class, or a function.
+#[derive(Drop)]
 pub struct Method {
     pub name: Name,
     pub params: Row<Param>,
@@ -74,7 +112,7 @@ pub struct Method {
 }
 
 /// A parameter of a method, with its type.
-#[derive(Debug, Drop)]
+#[derive(Drop)]
 pub struct Param {
     pub name: Name,
     pub ty: TypeText,
@@ -82,7 +120,7 @@ pub struct Param {
 }
 
 /// A name at a place of the text.
-#[derive(Debug, Drop)]
+#[derive(Drop)]
 pub struct Name {
     pub word: Word,
     pub span: Span,

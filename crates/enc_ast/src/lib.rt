@@ -7,19 +7,22 @@ mod keywords;
 mod lines;
 mod row;
 mod rules;
-mod scope;
+mod sources;
 mod stmts;
 mod types;
 mod word;
 
-pub use decls::{ActiveDecl, Decl, Field, Method, Name, Param, Program};
+pub use decls::{
+    ActiveDecl, ClassDecl, Decl, Field, GroupText, Method, ModeWord, Name, Param, Program,
+    TraitDecl,
+};
 pub use exprs::{Expr, ExprForm, Operator};
 pub use keywords::is_keyword;
 pub use lines::place;
 pub use row::Row;
 pub use rules::{Fail, Reject, Rule, Span};
-pub use scope::is_thin;
+pub use sources::{Source, SourceForm};
 pub use sqlite_items::{Boxed, Items};
-pub use stmts::{Source, SourceForm, Stmt, StmtForm};
+pub use stmts::{Receiver, Stmt, StmtForm};
 pub use types::{TypeForm, TypeText};
 pub use word::Word;

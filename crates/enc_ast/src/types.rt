@@ -1,10 +1,10 @@
 // Types as a program writes them.
 
-use crate::{Boxed, Span};
+use crate::{Boxed, GroupText, Items, Span};
 
 /// A type at a place of the text.
 #[cycle(type_text)]
-#[derive(Debug, Drop)]
+#[derive(Drop)]
 pub struct TypeText {
     pub form: TypeForm,
     pub span: Span,
@@ -12,9 +12,19 @@ pub struct TypeText {
 
 /// What a type says.
 #[cycle(type_text)]
-#[derive(Debug, Drop)]
+#[derive(Drop)]
 pub enum TypeForm {
     Int,
+    Bool,
+    Text,
     Unit,
+    /// A value that will be there later.
+    Fut(Boxed<TypeText>),
+    /// A tree of values, each of which is there now or later.
+    Par(Boxed<TypeText>),
     List(Boxed<TypeText>),
+    /// A part of another actor's object.
+    Bestowed(Boxed<TypeText>),
+    /// A class, or traits in groups.
+    Cap(Items<GroupText>),
 }
