@@ -3,18 +3,18 @@ use Rattle.std.proofs.Common.{◌≡◌, ℕ, true, List, [], ◌∷◌, ◌++�
 use Rattle.std.specs.List.{list_all}
 use Rattle.enc_ast.specs.declared.Span.{Span}
 use Rattle.enc_ast.specs.declared.Expr.{Expr}
-use Rattle.enc_ast.specs.declared.StmtForm.{StmtForm}
-use Rattle.enc_ast.specs.declared.StmtForm.TheVariants.{Let, Print}
+use Rattle.enc_ast.specs.declared.stmts.StmtForm.{StmtForm, out-StmtForm}
+use Rattle.enc_ast.specs.declared.StmtForm.TheOpen.{StmtForm-F}
 use Rattle.enc_ast.specs.declared.SourceForm.{SourceForm}
 use Rattle.enc_ast.specs.declared.SourceForm.TheVariants as sources
-use Rattle.enc_ast.specs.Thin.{is_free, is_sum_source, is_item, is_some_items, is_line, bound_after}
+use Rattle.enc_ast.specs.Thin.{is_free, is_sum_source, is_item, is_some_items, StmtLayer, is_line_layer, is_line, bound_after_layer, bound_after}
 use Rattle.enc_model.specs.declared.values.Value.TheVariants as values
 use Rattle.enc_model.specs.declared.moves.Got.{Got}
 use Rattle.enc_model.specs.declared.moves.Got.TheVariants.{Gives, Traps, Nothing}
 use Rattle.enc_model.specs.declared.moves.Move.{Move}
 use Rattle.enc_model.specs.declared.moves.Move.TheVariants.{Bind, Say, Leave, Fault, Lost}
 use Rattle.enc_model.specs.Eval.{Local, eval}
-use Rattle.enc_model.specs.Step.{bound, says, decide_source, decide_items, decide_form}
+use Rattle.enc_model.specs.Step.{bound, says, decide_source, decide_items, decide_layer, decide_form}
 use Rattle.enc_model.proofs.Evaluation.{both, IsInt, HaveInts, names_of, IsSumGot, IsItemGot, eval-sum, eval-item}
 
 -- where these names are bound, what is asked for leaves those bound
@@ -32,6 +32,7 @@ asks-bound names span name Nothing h = absurd h
 
 asks-source : (locals : List Local) (span : Span) (name : List ℕ) (source : SourceForm) → HaveInts locals → is_sum_source (names_of locals) source ≡ true → Asks (names_of locals) (names_of locals ++ name ∷ []) (decide_source span locals name source)
 asks-source locals span name (sources.Expr expr) h e = asks-bound (names_of locals) span name (eval expr locals) (eval-sum expr locals h e)
+asks-source locals span name _ h e = absurd (cc)
 
 asks-says : (names : List (List ℕ)) (span : Span) (rest : List ℕ → Move) (line : List ℕ) (got : Got) → IsItemGot got → ((more : List ℕ) → Asks names names (rest more)) → Asks names names (says span rest line got)
 asks-says names span rest line (Gives (values.Int z)) h r = r _
@@ -50,7 +51,11 @@ asks-print : (locals : List Local) (span : Span) (items : List Expr) → HaveInt
 asks-print locals span [] h e = absurd (cc)
 asks-print locals span (item ∷ items) h e = asks-items locals span (item ∷ items) [] h e
 
-pub asks-line : (locals : List Local) (span : Span) (form : StmtForm) → HaveInts locals → is_line (names_of locals) form ≡ true → Asks (names_of locals) (bound_after (names_of locals) form) (decide_form span locals form)
-asks-line locals span (Let name source) h e =
+asks-layer : (locals : List Local) (span : Span) (layer : StmtLayer) → HaveInts locals → is_line_layer (names_of locals) layer ≡ true → Asks (names_of locals) (bound_after_layer (names_of locals) layer) (decide_layer span locals layer)
+asks-layer locals span (StmtForm-F.Let name source) h e =
     asks-source locals span name.word source.form h (both (is_free (names_of locals) name.word) (is_sum_source (names_of locals) source.form) e).1
-asks-line locals span (Print items) h e = asks-print locals span items h e
+asks-layer locals span (StmtForm-F.Print items) h e = asks-print locals span items h e
+asks-layer locals span _ h e = absurd (cc)
+
+pub asks-line : (locals : List Local) (span : Span) (form : StmtForm) → HaveInts locals → is_line (names_of locals) form ≡ true → Asks (names_of locals) (bound_after (names_of locals) form) (decide_form span locals form)
+asks-line locals span form h e = asks-layer locals span (out-StmtForm form) h e

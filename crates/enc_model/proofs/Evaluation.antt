@@ -1,17 +1,21 @@
 -- What the expressions of the thin form give.
-use Rattle.std.proofs.Common.{◌≡◌, ◌∙◌, ℕ, ℤ, Bool, true, false, cond, ◌&&◌, ◌||◌, List, [], ◌∷◌, Option, Some, None, refl, ap, sym, subst, map}
+use Rattle.std.proofs.Common.{◌≡◌, ◌∙◌, ℕ, ℤ, Bool, true, false, cond, ◌&&◌, ◌||◌, List, [], ◌∷◌, Option, Some, None, refl, sym, subst, map}
+use Rattle.std.specs.Prelude.{◌+ℤ◌, ◌-ℤ◌, ◌*ℤ◌, if◌then◌else◌}
 use Rattle.enc_ast.specs.declared.Operator.{Operator}
+use Rattle.enc_ast.specs.declared.Operator.TheVariants as operators
 use Rattle.enc_ast.specs.declared.Expr.{Expr}
-use Rattle.enc_ast.specs.declared.exprs.ExprForm.{ExprForm, out-ExprForm}
+use Rattle.enc_ast.specs.declared.exprs.ExprForm.{ExprForm, out-ExprForm, out-roll-ExprForm}
 use Rattle.enc_ast.specs.declared.ExprForm.TheOpen.{ExprForm-F}
-use Rattle.enc_ast.specs.declared.exprs.ExprForm.TheFolds.{map-ExprForm, fold-ExprForm, fold-Expr, fold_out-ExprForm, fold_out-Expr}
-use Rattle.enc_ast.specs.Thin.{Layer, is_among, is_part_layer, is_part, is_sum_layer, is_sum, is_item_layer, is_item}
+use Rattle.enc_ast.specs.declared.exprs.ExprForm.TheFolds.{map-ExprForm, ind-ExprForm}
+use Rattle.enc_ast.specs.Thin.{Shape, Part, Sum, Other, Layer, is_among, is_arithmetic, between, shape_of, is_number, is_sum, is_text_layer, is_item}
 use Rattle.enc_model.specs.declared.values.TrapKind.TheVariants.{Overflow}
 use Rattle.enc_model.specs.declared.values.Value.{Value}
 use Rattle.enc_model.specs.declared.values.Value.TheVariants as values
 use Rattle.enc_model.specs.declared.moves.Got.{Got}
 use Rattle.enc_model.specs.declared.moves.Got.TheVariants.{Gives, Traps, Nothing}
-use Rattle.enc_model.specs.Eval.{Local, found, got_of, has_64_bits, result_of, operated, binary, layer_gives, eval}
+use Rattle.enc_model.specs.Eval.{Local, found, got_of, has_64_bits, result_of, fitted, operated, binary, eval}
+use Rattle.enc_model.proofs.Meaning.{gives_at, eval-layer}
+use Rattle.enc_model.proofs.Scopes.{shape_at, shape-layer}
 
 pub both : (a b : Bool) → (a && b) ≡ true → (a ≡ true) × (b ≡ true)
 both true b e = (refl, e)
@@ -95,72 +99,104 @@ fit-by : (fits : Bool) (z : ℤ) → IsSumGot (cond fits (Gives (values.Int z)) 
 fit-by true z = tt
 fit-by false z = tt
 
-operated-sum : (operator : Operator) (x y : Value) → IsInt x → IsInt y → IsSumGot (operated operator x y)
-operated-sum operator (values.Int x) (values.Int y) p q = fit-by (has_64_bits (result_of operator x y)) (result_of operator x y)
-operated-sum operator (values.Int x) (values.Text bytes) p q = absurd q
-operated-sum operator (values.Int x) values.Unit p q = absurd q
-operated-sum operator (values.Text bytes) y p q = absurd p
-operated-sum operator values.Unit y p q = absurd p
+-- an operator of the thin form has a result
+fitted-sum : (operator : Operator) (x y : ℤ) → is_arithmetic operator ≡ true → IsSumGot (fitted (result_of operator x y))
+fitted-sum operators.Add x y e = fit-by (has_64_bits (x +ℤ y)) (x +ℤ y)
+fitted-sum operators.Subtract x y e = fit-by (has_64_bits (x -ℤ y)) (x -ℤ y)
+fitted-sum operators.Multiply x y e = fit-by (has_64_bits (x *ℤ y)) (x *ℤ y)
+fitted-sum _ x y e = absurd (cc)
 
-binary-sum : (operator : Operator) (left right : Got) → IsIntGot left → IsIntGot right → IsSumGot (binary operator left right)
-binary-sum operator (Gives x) (Gives y) p q = operated-sum operator x y p q
-binary-sum operator (Gives x) (Traps kind) p q = absurd q
-binary-sum operator (Gives x) Nothing p q = absurd q
-binary-sum operator (Traps kind) right p q = absurd p
-binary-sum operator Nothing right p q = absurd p
+operated-sum : (operator : Operator) (x y : Value) → is_arithmetic operator ≡ true → IsInt x → IsInt y → IsSumGot (operated operator x y)
+operated-sum operator (values.Int x) (values.Int y) e p q = fitted-sum operator x y e
+operated-sum operator (values.Int x) (values.Text bytes) e p q = absurd q
+operated-sum operator (values.Int x) values.Unit e p q = absurd q
+operated-sum operator (values.Text bytes) y e p q = absurd p
+operated-sum operator values.Unit y e p q = absurd p
+
+binary-sum : (operator : Operator) (left right : Got) → is_arithmetic operator ≡ true → IsIntGot left → IsIntGot right → IsSumGot (binary operator left right)
+binary-sum operator (Gives x) (Gives y) e p q = operated-sum operator x y e p q
+binary-sum operator (Gives x) (Traps kind) e p q = absurd q
+binary-sum operator (Gives x) Nothing e p q = absurd q
+binary-sum operator (Traps kind) right e p q = absurd p
+binary-sum operator Nothing right e p q = absurd p
 
 -- ---- expressions
 
--- what a layer gives
-abbrev gives_at : List Local → Layer → Got
-gives_at locals (ExprForm-F.Int z) = Gives (values.Int z)
-gives_at locals (ExprForm-F.Text bytes) = Gives (values.Text bytes)
-gives_at locals (ExprForm-F.Name name) = found name locals
-gives_at locals (ExprForm-F.Binary operator left right) = binary operator (eval left locals) (eval right locals)
+-- what an expression of this shape gives where the variables have integers
+abbrev pub IsShapedGot : Shape → Got → Type 0
+IsShapedGot Part got = IsIntGot got
+IsShapedGot Sum got = IsSumGot got
+IsShapedGot Other got = Unit {0}
 
--- what a layer gives from what its operands give, as the fold has it
-layered : (layer : Layer) (locals : List Local) → layer_gives (map-ExprForm ExprForm Expr (List Local → Got) (List Local → Got) (fold-ExprForm (List Local → Got) (List Local → Got) layer_gives (λ node. node.form)) (fold-Expr (List Local → Got) (List Local → Got) layer_gives (λ node. node.form)) layer) locals ≡ gives_at locals layer
-unfolding eval
-layered (ExprForm-F.Int z) locals = refl
-layered (ExprForm-F.Text bytes) locals = refl
-layered (ExprForm-F.Name name) locals = refl
-layered (ExprForm-F.Binary operator left right) locals = refl
+-- it gives what its shape promises, by its outer level
+abbrev KeepsLayer : List Local → Layer → Type 0
+KeepsLayer locals layer = IsShapedGot (shape_at (names_of locals) layer) (gives_at locals layer)
 
-eval-layer : (e : Expr) (locals : List Local) → eval e locals ≡ gives_at locals (out-ExprForm e.form)
-unfolding eval
-eval-layer e locals =
-    ap (λ g. g locals) (fold_out-Expr (List Local → Got) (List Local → Got) layer_gives (λ node. node.form) e)
-    ∙ (ap (λ g. g locals) (fold_out-ExprForm (List Local → Got) (List Local → Got) layer_gives (λ node. node.form) e.form)
-    ∙ layered (out-ExprForm e.form) locals)
+-- the same of the whole expression
+abbrev Keeps : List Local → Expr → Type 0
+Keeps locals e = IsShapedGot (shape_of (names_of locals) e) (eval e locals)
 
-part-layer : (locals : List Local) (layer : Layer) → HaveInts locals → is_part_layer (names_of locals) layer ≡ true → IsIntGot (gives_at locals layer)
-part-layer locals (ExprForm-F.Int z) h e = tt
-part-layer locals (ExprForm-F.Text bytes) h e = absurd (cc)
-part-layer locals (ExprForm-F.Name name) h e = found-int name locals h e
-part-layer locals (ExprForm-F.Binary operator left right) h e = absurd (cc)
+keeps-layer : (locals : List Local) (e : Expr) → KeepsLayer locals (out-ExprForm e.form) → Keeps locals e
+keeps-layer locals e k =
+    subst (λ shape. IsShapedGot shape (eval e locals)) (sym (shape-layer (names_of locals) e))
+    (subst (λ got. IsShapedGot (shape_at (names_of locals) (out-ExprForm e.form)) got) (sym (eval-layer e locals)) k)
 
-eval-part : (e : Expr) (locals : List Local) → HaveInts locals → is_part (names_of locals) e ≡ true → IsIntGot (eval e locals)
-eval-part e locals h is = subst IsIntGot (sym (eval-layer e locals)) (part-layer locals (out-ExprForm e.form) h is)
+keeps-name : (name : List ℕ) (locals : List Local) (among : Bool) → HaveInts locals → is_among (names_of locals) name ≡ among → IsShapedGot (if among then Part else Other) (found name locals)
+keeps-name name locals true h e = found-int name locals h e
+keeps-name name locals false h e = tt
 
-sum-layer : (locals : List Local) (layer : Layer) → HaveInts locals → is_sum_layer (names_of locals) layer ≡ true → IsSumGot (gives_at locals layer)
-sum-layer locals (ExprForm-F.Int z) h e = tt
-sum-layer locals (ExprForm-F.Text bytes) h e = absurd (cc)
-sum-layer locals (ExprForm-F.Name name) h e = sum-int (found name locals) (found-int name locals h e)
-sum-layer locals (ExprForm-F.Binary operator left right) h e =
-    let parts = both (is_part (names_of locals) left) (is_part (names_of locals) right) e in
-    binary-sum operator (eval left locals) (eval right locals) (eval-part left locals h parts.0) (eval-part right locals h parts.1)
+keeps-sum : (known : Bool) (operator : Operator) (left right : Got) → is_arithmetic operator ≡ known → IsIntGot left → IsIntGot right → IsShapedGot (if known then Sum else Other) (binary operator left right)
+keeps-sum true operator left right e p q = binary-sum operator left right e p q
+keeps-sum false operator left right e p q = tt
 
-item-layer : (locals : List Local) (layer : Layer) → HaveInts locals → is_item_layer (names_of locals) layer ≡ true → IsItemGot (gives_at locals layer)
-item-layer locals (ExprForm-F.Int z) h e = tt
-item-layer locals (ExprForm-F.Text bytes) h e = tt
-item-layer locals (ExprForm-F.Name name) h e = item-sum (found name locals) (sum-int (found name locals) (found-int name locals h e))
-item-layer locals (ExprForm-F.Binary operator left right) h e =
-    item-sum (binary operator (eval left locals) (eval right locals)) (sum-layer locals (ExprForm-F.Binary operator left right) h e)
+keeps-binary : (operator : Operator) (x y : Shape) (left right : Got) → IsShapedGot x left → IsShapedGot y right → IsShapedGot (between operator x y) (binary operator left right)
+keeps-binary operator Part Part left right p q = keeps-sum (is_arithmetic operator) operator left right refl p q
+keeps-binary operator Part Sum left right p q = tt
+keeps-binary operator Part Other left right p q = tt
+keeps-binary operator Sum y left right p q = tt
+keeps-binary operator Other y left right p q = tt
+
+-- forms and expressions that give what their shapes promise
+abbrev F : List Local → Type 0
+F locals = (form : ExprForm) × KeepsLayer locals (out-ExprForm form)
+
+abbrev E : List Local → Type 0
+E locals = (e : Expr) × KeepsLayer locals (out-ExprForm e.form)
+
+keeps-form : (locals : List Local) (y : ExprForm-F (F locals) (E locals)) → HaveInts locals → KeepsLayer locals (map-ExprForm (F locals) (E locals) ExprForm Expr (λ z. z.0) (λ z. z.0) y)
+keeps-form locals (ExprForm-F.Int z) h = tt
+keeps-form locals (ExprForm-F.Name name) h = keeps-name name locals (is_among (names_of locals) name) h refl
+keeps-form locals (ExprForm-F.Parens inside) h = keeps-layer locals inside.0 inside.1
+keeps-form locals (ExprForm-F.Binary operator left right) h =
+    keeps-binary operator (shape_of (names_of locals) left.0) (shape_of (names_of locals) right.0) (eval left.0 locals) (eval right.0 locals) (keeps-layer locals left.0 left.1) (keeps-layer locals right.0 right.1)
+keeps-form locals _ h = tt
+
+keeps-all : (locals : List Local) → HaveInts locals → (form : ExprForm) → KeepsLayer locals (out-ExprForm form)
+keeps-all locals h = ind-ExprForm (λ form. KeepsLayer locals (out-ExprForm form)) (λ e. KeepsLayer locals (out-ExprForm e.form))
+    (λ x y is. subst (KeepsLayer locals) (is ∙ sym (out-roll-ExprForm x)) (keeps-form locals y h))
+    (λ x y is. subst (λ z. KeepsLayer locals (out-ExprForm z.form)) is y.form.1)
+
+-- each expression gives what its shape promises
+keeps-expr : (locals : List Local) → HaveInts locals → (e : Expr) → Keeps locals e
+keeps-expr locals h e = keeps-layer locals e (keeps-all locals h e.form)
+
+sum-shape : (shape : Shape) (got : Got) → IsShapedGot shape got → is_number shape ≡ true → IsSumGot got
+sum-shape Part got k e = sum-int got k
+sum-shape Sum got k e = k
+sum-shape Other got k e = absurd (cc)
 
 -- where the variables have integers, a sum is one, or traps
 pub eval-sum : (e : Expr) (locals : List Local) → HaveInts locals → is_sum (names_of locals) e ≡ true → IsSumGot (eval e locals)
-eval-sum e locals h is = subst IsSumGot (sym (eval-layer e locals)) (sum-layer locals (out-ExprForm e.form) h is)
+eval-sum e locals h is = sum-shape (shape_of (names_of locals) e) (eval e locals) (keeps-expr locals h e) is
+
+text-gives : (layer : Layer) (locals : List Local) → is_text_layer layer ≡ true → IsItemGot (gives_at locals layer)
+text-gives (ExprForm-F.Text bytes) locals e = tt
+text-gives _ locals e = absurd (cc)
+
+item-by : (text : Bool) (e : Expr) (locals : List Local) → is_text_layer (out-ExprForm e.form) ≡ text → HaveInts locals → (text || is_sum (names_of locals) e) ≡ true → IsItemGot (eval e locals)
+item-by true e locals t h is = subst IsItemGot (sym (eval-layer e locals)) (text-gives (out-ExprForm e.form) locals t)
+item-by false e locals t h is = item-sum (eval e locals) (eval-sum e locals h is)
 
 -- and what is printed can be printed, or traps
 pub eval-item : (e : Expr) (locals : List Local) → HaveInts locals → is_item (names_of locals) e ≡ true → IsItemGot (eval e locals)
-eval-item e locals h is = subst IsItemGot (sym (eval-layer e locals)) (item-layer locals (out-ExprForm e.form) h is)
+eval-item e locals h is = item-by (is_text_layer (out-ExprForm e.form)) e locals refl h is

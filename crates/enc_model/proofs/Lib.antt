@@ -1,6 +1,8 @@
+pub mod Forms
 pub mod Meaning
 pub mod Places
 pub mod Leaving
+pub mod Scopes
 pub mod Evaluation
 pub mod Deciding
 pub mod Reaching

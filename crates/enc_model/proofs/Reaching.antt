@@ -169,6 +169,7 @@ thin-decls : (decls : List Decl) → is_main_class decls ≡ true → is_body []
 thin-decls [] e = absurd (cc)
 thin-decls (Active class ∷ []) e = thin-methods class.methods (both (bytes_eq class.name.word (codes "Main") && is_empty class.fields) (is_main class.methods) e).1
 thin-decls (Active class ∷ (other ∷ decls)) e = absurd (cc)
+thin-decls (_ ∷ decls) e = absurd (cc)
 
 pub thin-body : (program : Program) → IsTrue (is_thin program) → is_body [] (body_of program) ≡ true
 thin-body program thin = thin-decls program.decls thin

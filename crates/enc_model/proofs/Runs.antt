@@ -1,6 +1,6 @@
 -- Runs, and schedules that go on by one step.
-use Rattle.std.proofs.Common.{◌≡◌, ◌+◌, ◌-◌, ◌∙◌, ◌<◌, ◌^◌, ℕ, zero, suc, Bool, true, false, List, [], ◌∷◌, ◌++◌, Some, None, refl, sym, ap, subst, append_assoc, add-one, length, length-append, arith}
-use Rattle.std.specs.Prelude.{replicate, fold, IsTrue, nat_le}
+use Rattle.std.proofs.Common.{◌≡◌, ◌+◌, ◌-◌, ◌∙◌, ◌<◌, ◌^◌, ℕ, zero, suc, Bool, true, false, List, [], ◌∷◌, ◌++◌, Some, None, Result, Ok, Err, refl, sym, ap, subst, append_assoc, add-one, length, length-append, arith}
+use Rattle.std.specs.Prelude.{replicate, fold, IsTrue, nat_le, IfOk, OnErr}
 use Rattle.std.specs.List.{list_all}
 use Rattle.std.proofs.lemmas.List.Sums.{fold-append, sum_by_push, sum_by-cons}
 use Rattle.std.proofs.lemmas.List.{length-replicate, append-nil}
@@ -122,6 +122,11 @@ valid-step program c next a kind valid e = record {
     reached = run-push program valid.reached.actors c next a kind valid.reached.reached e;
   };
 }
+
+-- and where it was asked for a step, whatever came of it
+pub valid-made : {E : Type 0} (program : Program) (c next : Config) (a : ℕ) (result : Result Stepped E) → IsValid program c → IfOk result (λ kind. step_of program c a ≡ Next next kind) → OnErr result (next ≡ c) → IsValid program next
+valid-made program c next a (Ok kind) valid made same = valid-step program c next a kind valid made
+valid-made program c next a (Err e) valid made same = subst (λ (d : Config). IsValid program d) (sym same) valid
 
 pub ruleset machines = (valid-known, valid-few, valid-start, valid-step)
 

@@ -38,15 +38,21 @@ has_64_bits (negsuc n) = nat_lt n (2 ^ 63)
 abbrev pub fit : ℤ → Got
 fit z = cond (has_64_bits z) (Gives (values.Int z)) (Traps Overflow)
 
--- what an operator makes of two numbers
-abbrev pub result_of : Operator → ℤ → ℤ → ℤ
-result_of operators.Add x y = x +ℤ y
-result_of operators.Subtract x y = x -ℤ y
-result_of operators.Multiply x y = x *ℤ y
+-- what an operator makes of two numbers, where it has a meaning so far
+abbrev pub result_of : Operator → ℤ → ℤ → Option ℤ
+result_of operators.Add x y = Some (x +ℤ y)
+result_of operators.Subtract x y = Some (x -ℤ y)
+result_of operators.Multiply x y = Some (x *ℤ y)
+result_of _ x y = None
+
+-- what comes of a result, if there is one
+abbrev pub fitted : Option ℤ → Got
+fitted None = Nothing
+fitted (Some z) = fit z
 
 -- what an operator gives of two values, each of which must be a number
 abbrev pub operated : Operator → Value → Value → Got
-operated operator (values.Int x) (values.Int y) = fit (result_of operator x y)
+operated operator (values.Int x) (values.Int y) = fitted (result_of operator x y)
 operated operator _ _ = Nothing
 
 -- operands from left to right: the first that gives no value counts
@@ -59,12 +65,14 @@ binary operator Nothing right = Nothing
 
 -- ---- expressions
 
--- what a layer gives, from what its operands give
+-- what a layer gives, from what stands inside gives; the forms that have no meaning so far give nothing
 abbrev pub layer_gives : ExprForm-F (List Local → Got) (List Local → Got) → List Local → Got
 layer_gives (ExprForm-F.Int z) locals = Gives (values.Int z)
 layer_gives (ExprForm-F.Text bytes) locals = Gives (values.Text bytes)
 layer_gives (ExprForm-F.Name name) locals = found name locals
 layer_gives (ExprForm-F.Binary operator left right) locals = binary operator (left locals) (right locals)
+layer_gives (ExprForm-F.Parens inside) locals = inside locals
+layer_gives _ locals = Nothing
 
 -- what the expression gives where these variables are bound
 unfoldable pub eval : Expr → List Local → Got

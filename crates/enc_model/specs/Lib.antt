@@ -4,4 +4,5 @@ pub mod Exec
 pub mod Laws
 pub mod Machine
 pub mod Phase
+pub mod Scope
 pub mod Step

@@ -4,8 +4,8 @@ use Rattle.std.specs.Fmt.{signed_decimal}
 use Rattle.enc_ast.specs.declared.Program.{Program}
 use Rattle.enc_ast.specs.declared.Span.{Span}
 use Rattle.enc_ast.specs.declared.Stmt.{Stmt}
-use Rattle.enc_ast.specs.declared.StmtForm.{StmtForm}
-use Rattle.enc_ast.specs.declared.StmtForm.TheVariants.{Let, Print}
+use Rattle.enc_ast.specs.declared.StmtForm.{StmtForm, out-StmtForm}
+use Rattle.enc_ast.specs.declared.StmtForm.TheOpen.{StmtForm-F}
 use Rattle.enc_ast.specs.declared.SourceForm.{SourceForm}
 use Rattle.enc_ast.specs.declared.SourceForm.TheVariants as sources
 use Rattle.enc_ast.specs.declared.Expr.{Expr}
@@ -45,9 +45,10 @@ bound span name (Gives value) = Bind name value
 bound span name (Traps kind) = Fault kind span
 bound span name Nothing = Lost
 
--- a new variable gets the value of the expression
+-- a new variable gets the value of the expression; the other sources have no meaning so far
 abbrev pub decide_source : Span → List Local → List ℕ → SourceForm → Move
 decide_source span locals name (sources.Expr expr) = bound span name (eval expr locals)
+decide_source span locals name _ = Lost
 
 -- the bytes that stand for a value where it is printed
 abbrev pub shown : Value → Option (List ℕ)
@@ -71,10 +72,15 @@ abbrev pub decide_items : Span → List Local → List Expr → List ℕ → Mov
 decide_items span locals [] line = Say (line ++ 10 ∷ [])
 decide_items span locals (item ∷ items) line = says span (decide_items span locals items) line (eval item locals)
 
+-- what a statement asks for, by its outer level; the other statements have no meaning so far
+abbrev pub decide_layer : Span → List Local → StmtForm-F StmtForm Stmt → Move
+decide_layer span locals (StmtForm-F.Let name source) = decide_source span locals name.word source.form
+decide_layer span locals (StmtForm-F.Print items) = decide_items span locals items []
+decide_layer span locals _ = Lost
+
 -- what a statement asks for
 abbrev pub decide_form : Span → List Local → StmtForm → Move
-decide_form span locals (Let name source) = decide_source span locals name.word source.form
-decide_form span locals (Print items) = decide_items span locals items []
+decide_form span locals form = decide_layer span locals (out-StmtForm form)
 
 -- by the statement at which the frame stands
 abbrev pub decide_at : List Local → Option Stmt → Move

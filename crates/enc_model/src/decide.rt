@@ -1,7 +1,7 @@
 // What a frame does next.
 ghost use Rattle.std.specs.Prelude.{◌≡◌, ℕ, List, [], IfOk};
 ghost use Rattle.std.specs.Option.{unwrap_or};
-ghost use Rattle.enc_model.specs.Step.{decide as decide_of, decide_form, decide_items, decide_source, says, goes_on, shown};
+ghost use Rattle.enc_model.specs.Step.{decide as decide_of, decide_form, decide_items, decide_source, bound, says, goes_on, shown};
 ghost use Rattle.enc_model.specs.Eval.{eval as eval_of};
 ghost use Rattle.enc_model.specs.declared.moves.Move.{Move as Asked};
 
@@ -27,6 +27,7 @@ fn decide_stmt(alloc: Global, stmt: &Stmt, locals: &Locals) -> Result<Move, Allo
     match &stmt.form {
         StmtForm::Let(name, source) => decide_let(alloc, stmt.span, name, source, locals),
         StmtForm::Print(items) => decide_print(alloc, stmt.span, items.as_slice(), locals),
+        _ => Ok(Move::Lost),
     }
 }
 
@@ -39,19 +40,25 @@ fn decide_let(
 ) -> Result<Move, AllocError>
     ensures { IfOk result (λ asked. asked ≡ decide_source span locals.now.pairs name.now.word source.now.form) }
 {
-    match eval(alloc, source_expr(source), locals)? {
-        Got::Gives(value) => Ok(Move::Bind(name.word.copy()?, value)),
-        Got::Traps(kind) => Ok(Move::Fault(kind, span)),
-        Got::Nothing => Ok(Move::Lost),
+    match &source.form {
+        SourceForm::Expr(expr) => decide_value(alloc, span, name, expr, locals),
+        _ => Ok(Move::Lost),
     }
 }
 
-// The expression whose value the variable gets.
-fn source_expr(source: &Source) -> &Expr
-    ensures { source.now.form ≡ SourceForm.Expr result.now }
+fn decide_value(
+    alloc: Global,
+    span: Span,
+    name: &Name,
+    expr: &Expr,
+    locals: &Locals,
+) -> Result<Move, AllocError>
+    ensures { IfOk result (λ asked. asked ≡ bound span name.now.word (eval_of expr.now locals.now.pairs)) }
 {
-    match &source.form {
-        SourceForm::Expr(expr) => expr,
+    match eval(alloc, expr, locals)? {
+        Got::Gives(value) => Ok(Move::Bind(name.word.copy()?, value)),
+        Got::Traps(kind) => Ok(Move::Fault(kind, span)),
+        Got::Nothing => Ok(Move::Lost),
     }
 }
 

@@ -1,6 +1,6 @@
 // What an expression gives.
 ghost use Rattle.std.specs.Prelude.{◌≡◌, IfOk};
-ghost use Rattle.enc_model.specs.Eval.{eval as eval_of, found, got_of, operated, fit, result_of};
+ghost use Rattle.enc_model.specs.Eval.{eval as eval_of, found, got_of, operated, fitted, result_of};
 
 use crate::values::copy_bytes;
 use crate::{Got, Locals, TrapKind, Value};
@@ -25,6 +25,8 @@ pub fn eval(alloc: Global, expr: &Expr, locals: &Locals) -> Result<Got, AllocErr
             Got::Traps(kind) => Ok(Got::Traps(kind)),
             Got::Nothing => Ok(Got::Nothing),
         },
+        ExprForm::Parens(inside) => eval(alloc, inside.get(), locals),
+        _ => Ok(Got::Nothing),
     }
 }
 
@@ -61,12 +63,13 @@ fn operate(operator: Operator, left: Value, right: Value) -> Got
 }
 
 fn calculate(operator: Operator, x: i64, y: i64) -> Got
-    ensures { result ≡ fit (result_of operator x y) }
+    ensures { result ≡ fitted (result_of operator x y) }
 {
     let result = match operator {
         Operator::Add => x.checked_add(y),
         Operator::Subtract => x.checked_sub(y),
         Operator::Multiply => x.checked_mul(y),
+        _ => return Got::Nothing,
     };
     match result {
         Some(number) => Got::Gives(Value::Int(number)),

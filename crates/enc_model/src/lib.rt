@@ -11,6 +11,7 @@ mod moves;
 mod plain;
 mod schedule;
 mod steps;
+mod thin_form;
 mod values;
 
 pub use config::{Actor, Cell, Config, Frame, Message, Task};
@@ -18,4 +19,5 @@ pub use laws::{never_blocked, never_stuck, stops_soon};
 pub use moves::{Got, Move};
 pub use plain::{Plain, StepFail};
 pub use schedule::{Pair, Phase, Schedule, Stepped};
+pub use thin_form::thin;
 pub use values::{Locals, TrapKind, Value};

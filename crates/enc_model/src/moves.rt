@@ -8,7 +8,7 @@ use enc_ast::{Row, Span, Word};
 pub enum Got {
     Gives(Value),
     Traps(TrapKind),
-    /// A variable is missing, or an operand has a wrong form.
+    /// A variable is missing, an operand has a wrong form, or the expression has no meaning so far.
     Nothing,
 }
 

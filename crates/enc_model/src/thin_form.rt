@@ -1,19 +1,20 @@
 // Whether a program is in the thin form: which variables are bound where.
-ghost use Rattle.std.specs.Prelude.{◌≡◌, []};
+ghost use Rattle.std.specs.Prelude.{◌≡◌, ◌&&◌, []};
 ghost use Rattle.enc_ast.specs.Thin as thin;
-ghost use Rattle.enc_ast.specs.Scope.{words_of};
+ghost use Rattle.enc_model.specs.Scope.{words_of, is_part as is_part_of};
 
-use crate::{
-    Decl, Expr, ExprForm, Field, Method, Param, Program, SourceForm, Stmt, StmtForm, TypeForm,
-    TypeText,
+use enc_ast::{
+    Decl, Expr, ExprForm, Field, Method, Operator, Param, Program, SourceForm, Stmt, StmtForm,
+    TypeForm, TypeText,
 };
 
 /// How many variables a body can bind.
 const MAX_VARIABLES: usize = 254;
 
 /// Whether a program is in the thin form: one active class `Main` with no field, whose one method
-/// `main` binds integers to variables, at most 254 of them, and prints.
-pub fn is_thin(program: &Program) -> bool
+/// `main` binds integers to variables, at most 254 of them, and prints. Any brackets may stand round a
+/// whole sum and round its parts. The answer takes no memory.
+pub fn thin(program: &Program) -> bool
     ensures { result ≡ thin.is_thin program.now }
 {
     is_main_class(program.decls.as_slice())
@@ -110,6 +111,7 @@ fn is_line(names: &[&str], form: &StmtForm) -> bool
             is_free(names, name.word.as_str()) && is_sum_source(names, &source.form)
         }
         StmtForm::Print(items) => is_some_items(names, items.as_slice()),
+        _ => false,
     }
 }
 
@@ -130,6 +132,7 @@ fn is_sum_source(names: &[&str], form: &SourceForm) -> bool
 {
     match form {
         SourceForm::Expr(expr) => is_sum(names, expr),
+        _ => false,
     }
 }
 
@@ -144,6 +147,7 @@ fn is_some_items(names: &[&str], items: &[Expr]) -> bool
     !items.is_empty()
 }
 
+#[tactic(auto, using(crate::proofs::Scopes::shapes))]
 fn is_item(names: &[&str], expr: &Expr) -> bool
     ensures { result ≡ thin.is_item (words_of names.now) expr.now }
 {
@@ -153,21 +157,40 @@ fn is_item(names: &[&str], expr: &Expr) -> bool
     }
 }
 
+#[tactic(auto, using(crate::proofs::Scopes::shapes))]
 fn is_sum(names: &[&str], expr: &Expr) -> bool
     ensures { result ≡ thin.is_sum (words_of names.now) expr.now }
 {
     match &expr.form {
-        ExprForm::Binary(_, left, right) => {
-            is_part(names, left.get()) && is_part(names, right.get())
+        ExprForm::Parens(inside) => is_sum(names, inside.get()),
+        ExprForm::Binary(operator, left, right) => {
+            is_arithmetic(*operator) && are_parts(names, left.get(), right.get())
         }
         _ => is_part(names, expr),
     }
 }
 
+fn is_arithmetic(operator: Operator) -> bool
+    ensures { result ≡ thin.is_arithmetic operator }
+{
+    matches!(
+        operator,
+        Operator::Add | Operator::Subtract | Operator::Multiply
+    )
+}
+
+fn are_parts(names: &[&str], left: &Expr, right: &Expr) -> bool
+    ensures { result ≡ (is_part_of (words_of names.now) left.now && is_part_of (words_of names.now) right.now) }
+{
+    is_part(names, left) && is_part(names, right)
+}
+
+#[tactic(auto, using(crate::proofs::Scopes::shapes))]
 fn is_part(names: &[&str], expr: &Expr) -> bool
-    ensures { result ≡ thin.is_part (words_of names.now) expr.now }
+    ensures { result ≡ is_part_of (words_of names.now) expr.now }
 {
     match &expr.form {
+        ExprForm::Parens(inside) => is_part(names, inside.get()),
         ExprForm::Int(_) => true,
         ExprForm::Name(word) => is_among(names, word.as_str()),
         _ => false,

@@ -2,8 +2,8 @@ use Rattle.std.proofs.Common.{◌∙◌, sym, rules, tests}
 use Rattle.std.specs.Str.{bytes_eq}
 use Rattle.std.proofs.lemmas.Iterator.{YieldsList-from_slice}
 use Rattle.std.proofs.lemmas.Iterator.Search.{any_from_yields_List}
-use Rattle.enc_ast.proofs.Scopes.{list_any-map}
-use Rattle.enc_ast.proofs.scope.is_among.Goals as goal
+use Rattle.enc_model.proofs.Scopes.{list_any-map}
+use Rattle.enc_model.proofs.thin_form.is_among.Goals as goal
 
 pub returns : goal.returns
 returns c =

@@ -1,8 +1,8 @@
 use Rattle.std.proofs.Common.{◌≡◌, ◌∙◌, sym, length, take, arith}
 use Rattle.std.proofs.lemmas.List.{length-map, length-take}
-use Rattle.enc_ast.specs.Scope.{words_of}
-use Rattle.enc_ast.proofs.Scopes.{is_body-full}
-use Rattle.enc_ast.proofs.scope.is_body.Goals as goal
+use Rattle.enc_model.specs.Scope.{words_of}
+use Rattle.enc_model.proofs.Scopes.{is_body-full}
+use Rattle.enc_model.proofs.thin_form.is_body.Goals as goal
 
 pub returns-then-count-eq-MAX_VARIABLES : goal.returns-then-count-eq-MAX_VARIABLES
 returns-then-count-eq-MAX_VARIABLES c =

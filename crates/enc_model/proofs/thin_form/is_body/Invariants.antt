@@ -1,7 +1,7 @@
 use Rattle.std.proofs.Common.{◌≡◌, ◌≤◌, [], length, take, drop}
-use Rattle.enc_ast.specs.Scope.{words_of}
+use Rattle.enc_model.specs.Scope.{words_of}
 use Rattle.enc_ast.specs.Thin.{is_body}
-use Rattle.enc_ast.proofs.scope.is_body.Given as goal
+use Rattle.enc_model.proofs.thin_form.is_body.Given as goal
 
 abbrev pub invariant-loop-stmt : goal.invariant-loop-stmt
 invariant-loop-stmt l = record {
