@@ -1,5 +1,5 @@
 -- The readings of expressions are lawful.
-use Rattle.std.proofs.Common.{◌≡◌, ℕ, ◌≤◌, Bool, true, false, List, [], ◌∷◌, length, Option, Some, None, refl, sym, ap, subst, ◌∙◌, inl, inr, arith}
+use Rattle.std.proofs.Common.{◌≡◌, ℕ, ◌<◌, ◌≤◌, Bool, true, false, List, [], ◌∷◌, length, Option, Some, None, refl, sym, ap, subst, ◌∙◌, inl, inr, arith}
 use Rattle.std.specs.Prelude.{pos, ◌||◌, ◌==◌, codes, if◌then◌else◌}
 use Rattle.std.proofs.lemmas.Bool.Decides.{nat_tests}
 use Rattle.enc_ast.specs.declared.Expr.{Expr}
@@ -8,9 +8,9 @@ use Rattle.enc_ast.specs.declared.ExprForm.TheVariants as exprs
 use Rattle.enc_ast.specs.declared.Operator.{Operator}
 use Rattle.enc_ast.specs.declared.Operator.TheVariants.{Add, Subtract, Multiply}
 use Rattle.enc_ast.specs.declared.Span.{Span}
-use Rattle.enc_parse.specs.Lexemes.{Number, Symbol, Stands, skip_blanks, begins_with, begins_name, is_digit}
+use Rattle.enc_parse.specs.Lexemes.{Number, Symbol, skip_blanks, begins_with, begins_name, is_digit}
 use Rattle.enc_parse.specs.Grammar as grammar
-use Rattle.enc_parse.specs.Grammar.{Stretch, IsNext, IsWord, IsSymbol, IsName, IsPart, IsSum, IsItem, IsItems, between, expr_of, symbol_of}
+use Rattle.enc_parse.specs.Grammar.{Stretch, IsNext, IsWord, IsSymbol, IsName, IsPart, IsSum, IsItem, IsItems, between, expr_of, IsOperator}
 use Rattle.enc_parse.specs.Scan.{Found, found_before, operator_of, operator_at, symbol_at}
 use Rattle.enc_parse.specs.Steps.{Spot, spot, Outcome, Got, Wrong, and_then, sees, is_byte, operator_in, operator, taken_in, takes, extent}
 use Rattle.enc_parse.specs.Reading.{part_form, part, sum_after, sum, text, item, item_if, next_item, items}
@@ -78,29 +78,34 @@ part_law = same_lawful part_made part_parts (node_lawful expr_at part_form_law)
 
 -- ---- operators
 
-operator_stands : (a : List ℕ) (o : Operator) (b : List ℕ) → operator_at a ≡ found o b → Stands (Symbol (symbol_of o)) a b
+-- the first token is an operator where one is found there
+operator_stands : (a : List ℕ) (o : Operator) (b text : List ℕ) → skip_blanks a ≡ text → operator_at text ≡ found o b → IsOperator o a b
 unfolding operator_at
-operator_stands [] o b h = absurd cc
-operator_stands (byte ∷ text) o b h = go (byte == 43) (byte == 45) (byte == 42) refl refl refl h
+operator_stands a o b [] is h = absurd cc
+operator_stands a o b (byte ∷ text) is h = go (byte == 43) (byte == 45) (byte == 42) refl refl refl h
   where
-    at_byte : (c : ℕ) (p : Operator) → byte ≡ c → found p text ≡ found o b → Stands (Symbol (symbol_of p)) (c ∷ text) text → Stands (Symbol (symbol_of o)) (byte ∷ text) b
-    at_byte c p e h s =
+    at_byte : (c : ℕ) (p : Operator) → byte ≡ c → found p text ≡ found o b → (skip_blanks a ≡ c ∷ text → IsOperator p a text) → IsOperator o a b
+    at_byte c p e h made =
         let same = found_is p o text b h in
-        subst (λ (byte : ℕ). Stands (Symbol (symbol_of o)) (byte ∷ text) b) (sym e)
-        (subst (λ (o : Operator). Stands (Symbol (symbol_of o)) (c ∷ text) b) same.0 (subst (λ (b : List ℕ). Stands (Symbol (symbol_of p)) (c ∷ text) b) same.1 s))
+        subst (λ (o : Operator). IsOperator o a b) same.0 (subst (λ (b : List ℕ). IsOperator p a b) same.1 (made (is ∙ ap (λ byte. byte ∷ text) e)))
 
     go : (x y z : Bool) → (byte == 43) ≡ x → (byte == 45) ≡ y → (byte == 42) ≡ z
-        → found_before text (if x then Some Add else if y then Some Subtract else if z then Some Multiply else None) ≡ found o b → Stands (Symbol (symbol_of o)) (byte ∷ text) b
-    go true y z ex ey ez h = at_byte 43 Add (are_same byte 43 ex) h (refl, refl, refl)
-    go false true z ex ey ez h = at_byte 45 Subtract (are_same byte 45 ey) h (refl, refl, refl)
-    go false false true ex ey ez h = at_byte 42 Multiply (are_same byte 42 ez) h (refl, refl, refl)
+        → found_before text (if x then Some Add else if y then Some Subtract else if z then Some Multiply else None) ≡ found o b → IsOperator o a b
+    go true y z ex ey ez h = at_byte 43 Add (are_same byte 43 ex) h (λ s. grammar.add (record { stands = (s, refl, refl) }))
+    go false true z ex ey ez h = at_byte 45 Subtract (are_same byte 45 ey) h (λ s. grammar.subtract (record { stands = (s, refl, refl) }))
+    go false false true ex ey ez h = at_byte 42 Multiply (are_same byte 42 ez) h (λ s. grammar.multiply (record { stands = (s, refl, refl) }))
     go false false false ex ey ez h = absurd cc
 
-operator_found : (o : Operator) (a b : List ℕ) → Stands (Symbol (symbol_of o)) a b → operator_at a ≡ found o b
+operator_found : (o : Operator) (a b : List ℕ) → IsOperator o a b → operator_at (skip_blanks a) ≡ found o b
 unfolding operator_at
-operator_found Add a b s = rw s.0 refl
-operator_found Subtract a b s = rw s.0 refl
-operator_found Multiply a b s = rw s.0 refl
+operator_found _ a b (grammar.add s) = rw s.stands.0 refl
+operator_found _ a b (grammar.subtract s) = rw s.stands.0 refl
+operator_found _ a b (grammar.multiply s) = rw s.stands.0 refl
+
+operator_shorter : (o : Operator) (a b : List ℕ) → IsOperator o a b → length b < length a
+operator_shorter _ a b (grammar.add s) = next_shorter (Symbol (codes "+")) a b s
+operator_shorter _ a b (grammar.subtract s) = next_shorter (Symbol (codes "-")) a b s
+operator_shorter _ a b (grammar.multiply s) = next_shorter (Symbol (codes "*")) a b s
 
 -- a byte behind a sum
 abbrev pub ends_sum : ℕ → Bool
@@ -130,7 +135,7 @@ Sum n x a b = IsSum n x a b
 abbrev joined : Spot → Operator → Expr → Expr → Spot → Expr
 joined a o x y b = record { form = exprs.Binary o x y; span = extent a b }
 
-right_sound : (n : ℕ) (a b c : List ℕ) (x z : Expr) (o : Operator) (d : Spot) (r : Outcome Expr) → part (spot n c) ≡ r → IsPart n x a b → IsSymbol (symbol_of o) b c
+right_sound : (n : ℕ) (a b c : List ℕ) (x z : Expr) (o : Operator) (d : Spot) (r : Outcome Expr) → part (spot n c) ≡ r → IsPart n x a b → IsOperator o b c
     → and_then r (λ y e. Got (joined (spot n a) o x y e) e) ≡ Got z d → (e : List ℕ) × (d ≡ spot n e) × Sum n z a e
 right_sound n a b c x z o d (Got y m) e p s h =
     let q = part_law.sound n c y m e in
@@ -141,7 +146,7 @@ right_sound n a b c x z o d Wrong e p s h = absurd cc
 after_sound : (n : ℕ) (a b : List ℕ) (x z : Expr) (d : Spot) (f : Found Operator) → operator_at (skip_blanks b) ≡ f → IsPart n x a b
     → and_then (operator_in (spot n b) f) (λ o c. sum_after (spot n a) x o c) ≡ Got z d → (e : List ℕ) × (d ≡ spot n e) × Sum n z a e
 after_sound n a b x z d None e p h = moved Sum n a b z x d (spot n b) h refl (grammar.part p)
-after_sound n a b x z d (Some f) e p h = right_sound n a b f.1 x z f.0 d (part (spot n f.1)) refl p (record { stands = operator_stands (skip_blanks b) f.0 f.1 e }) h
+after_sound n a b x z d (Some f) e p h = right_sound n a b f.1 x z f.0 d (part (spot n f.1)) refl p (operator_stands b f.0 f.1 (skip_blanks b) refl e) h
 
 sum_sound : (n : ℕ) (a : List ℕ) (z : Expr) (d : Spot) (r : Outcome Expr) → part (spot n a) ≡ r
     → and_then r (λ x b. and_then (operator b) (λ o c. sum_after (spot n a) x o c)) ≡ Got z d → (e : List ℕ) × (d ≡ spot n e) × Sum n z a e
@@ -158,14 +163,14 @@ sum_all n a b x (grammar.part p) m =
     ∙ ap (λ (f : Found Operator). and_then (operator_in (spot n b) f) (λ o c. sum_after (spot n a) x o c)) (no_operator (skip_blanks b) m)
 sum_all n a d x (grammar.binary {operator = o} {x = left} {y} {b} {c} p s q) m =
     ap (λ (r : Outcome Expr). and_then r (λ x b. and_then (operator b) (λ o c. sum_after (spot n a) x o c))) (part_law.complete n a b left p refl)
-    ∙ ap (λ (f : Found Operator). and_then (operator_in (spot n b) f) (λ o c. sum_after (spot n a) left o c)) (operator_found o (skip_blanks b) c s.stands)
+    ∙ ap (λ (f : Found Operator). and_then (operator_in (spot n b) f) (λ o c. sum_after (spot n a) left o c)) (operator_found o b c s)
     ∙ ap (λ (r : Outcome Expr). and_then r (λ y e. Got (joined (spot n a) o left y e) e)) (part_law.complete n c d y q refl)
 
 sum_onward : (n : ℕ) (a b : List ℕ) (x : Expr) → Sum n x a b → length b ≤ length a
 sum_onward n a b x (grammar.part p) = part_law.onward n a b x p
 sum_onward n a d x (grammar.binary {operator = o} {x = left} {y} {b} {c} p s q) =
     let h = part_law.onward n a b left p in
-    let i = next_shorter (Symbol (symbol_of o)) b c s in
+    let i = operator_shorter o b c s in
     let j = part_law.onward n c d y q in
     omega (arith, h, i, j)
 

@@ -54,11 +54,11 @@ expr_of size form a b = record { form = form; span = between size a b }
 abbrev pub name_of : ℕ → List ℕ → List ℕ → List ℕ → Name
 name_of size word a b = record { word = word; span = between size a b }
 
--- how an operator is written
-abbrev pub symbol_of : Operator → List ℕ
-symbol_of operators.Add = codes "+"
-symbol_of operators.Subtract = codes "-"
-symbol_of operators.Multiply = codes "*"
+-- one of the operators of the thin form
+pub data IsOperator : Operator → List ℕ → List ℕ → Type 0 where
+  add : {a b : List ℕ} → IsSymbol (codes "+") a b → IsOperator operators.Add a b
+  subtract : {a b : List ℕ} → IsSymbol (codes "-") a b → IsOperator operators.Subtract a b
+  multiply : {a b : List ℕ} → IsSymbol (codes "*") a b → IsOperator operators.Multiply a b
 
 -- an integer, or the name of a variable
 pub data IsPart : ℕ → Expr → List ℕ → List ℕ → Type 0 where
@@ -68,7 +68,7 @@ pub data IsPart : ℕ → Expr → List ℕ → List ℕ → Type 0 where
 -- a part by itself, or two with an operator between
 pub data IsSum : ℕ → Expr → List ℕ → List ℕ → Type 0 where
   part : {size : ℕ} {x : Expr} {a b : List ℕ} → IsPart size x a b → IsSum size x a b
-  binary : {size : ℕ} {operator : Operator} {x y : Expr} {a b c d : List ℕ} → IsPart size x a b → IsSymbol (symbol_of operator) b c → IsPart size y c d → IsSum size (expr_of size (exprs.Binary operator x y) a d) a d
+  binary : {size : ℕ} {operator : Operator} {x y : Expr} {a b c d : List ℕ} → IsPart size x a b → IsOperator operator b c → IsPart size y c d → IsSum size (expr_of size (exprs.Binary operator x y) a d) a d
 
 -- a sum, or a quoted text
 pub data IsItem : ℕ → Expr → List ℕ → List ℕ → Type 0 where

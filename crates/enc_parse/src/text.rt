@@ -10,7 +10,8 @@ ghost use Rattle.enc_parse.specs.Spells.{Spells};
 use crate::classes::{main_class, row_of};
 use crate::cursor::Cursor;
 use crate::error::ParseError;
-use enc_ast::{Decl, Fail, Program, Reject, Rule, Span, is_thin};
+use enc_ast::{Decl, Fail, Program, Reject, Rule, Span};
+use enc_model::thin;
 use std::alloc::Global;
 
 const MAX_SIZE: usize = 1_048_576;
@@ -56,7 +57,7 @@ fn thin_program(alloc: Global, text: &[u8]) -> Result<Program, ParseError>
     ensures { Gives (reading.thin_program text.now) result }
 {
     let program = whole_program(alloc, text)?;
-    if !is_thin(&program) {
+    if !thin(&program) {
         return Err(ParseError::Form);
     }
     Ok(program)
