@@ -1,5 +1,5 @@
 -- What is due after a run that stopped.
-use Rattle.std.proofs.Common.{◌≡◌, ◌∙◌, ℕ, Bool, true, false, List, [], Option, Some, None, cond, refl, ap, arith}
+use Rattle.std.proofs.Common.{◌≡◌, ◌∙◌, ℕ, Bool, true, false, List, [], Option, Some, None, cond, refl, ap, sym, subst, arith}
 use Rattle.std.specs.Prelude.{IsSome, nat_le}
 use Rattle.std.proofs.lemmas.Bool.{false≢true}
 use Rattle.enc_ast.specs.declared.Program.{Program}
@@ -14,7 +14,7 @@ use Rattle.encore_run.specs.declared.status.Status.TheVariants.{Budget}
 use Rattle.encore_run.specs.declared.words.Command.{Command}
 use Rattle.encore_run.specs.declared.words.Command.TheVariants.{Run}
 use Rattle.encore_run.specs.Command.{source_of}
-use Rattle.encore_run.specs.Due.{budget, due, run_due, status_of, stop_status, stop_line, IsScheduleFor, StopsAt}
+use Rattle.encore_run.specs.Due.{budget, due, run_due, status_of, stop_status, stop_line, has_steps, IsScheduleFor, StopsAt}
 
 by_budget : (here : Bool) (status : Status) → IsSome (cond here (Some status) None) → cond here (Some status) None ≡ Some status
 by_budget true status h = refl
@@ -25,6 +25,21 @@ stops_with steps phases.Running h = by_budget (nat_le budget steps) Budget h
 stops_with steps phases.Trapped h = refl
 stops_with steps phases.Blocked h = refl
 stops_with steps phases.Ended h = refl
+
+-- a run may stop in each phase once the budget is used up
+stops_full : (phase : Phase) → IsSome (stop_status budget phase)
+stops_full phases.Running = refl
+stops_full phases.Trapped = refl
+stops_full phases.Blocked = refl
+stops_full phases.Ended = refl
+
+pub full_stops : (program machine : Program) (pairs : List Pair) (config : Config) → machine ≡ program → exec machine pairs ≡ Some config → has_steps pairs ≡ true → steps_of pairs ≡ budget → StopsAt program pairs config
+full_stops program machine pairs config same reached some full = record {
+  exec = subst (λ (p : Program). exec p pairs ≡ Some config) same reached;
+  some = some;
+  stops = subst (λ steps. IsSome (stop_status steps (phase_of program config))) (sym full) (stops_full (phase_of program config));
+  steps = omega arith;
+}
 
 due_is : (command : Command) (text : List ℕ) (program : Program) (pairs : List Pair) (config : Config) → exec program pairs ≡ Some config → due command text program pairs ≡ run_due (source_of command) text program (steps_of pairs) (Some config)
 due_is (Run file) text program pairs config e = ap (run_due file text program (steps_of pairs)) e
