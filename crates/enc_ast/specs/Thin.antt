@@ -2,6 +2,7 @@
 use Rattle.std.specs.Prelude.{◌&&◌, ◌||◌, ℕ, Bool, true, false, not, List, [], ◌∷◌, ◌++◌, length, nat_le, codes, if◌then◌else◌}
 use Rattle.std.specs.List.{list_any, list_all}
 use Rattle.std.specs.Str.{bytes_eq}
+use Rattle.enc_ast.specs.Keywords.{is_keyword}
 use Rattle.enc_ast.specs.declared.decls.Program.{Program}
 use Rattle.enc_ast.specs.declared.decls.Decl.{Decl}
 use Rattle.enc_ast.specs.declared.decls.Decl.TheVariants.{Active}
@@ -91,9 +92,9 @@ abbrev pub is_sum_source : List (List ℕ) → SourceForm → Bool
 is_sum_source names (sources.Expr expr) = is_sum names expr
 is_sum_source names _ = false
 
--- a name that no variable has, and not that of the parameter
+-- a name that no variable has, and neither that of the parameter nor a word of the language
 abbrev pub is_free : List (List ℕ) → List ℕ → Bool
-is_free names word = not (is_among names word) && not (bytes_eq word (codes "args"))
+is_free names word = not (is_among names word) && not (bytes_eq word (codes "args")) && not (is_keyword word)
 
 -- at least one item, each of which can be printed
 abbrev pub is_some_items : List (List ℕ) → List Expr → Bool

@@ -5,7 +5,7 @@ ghost use Rattle.enc_model.specs.Scope.{words_of, is_part as is_part_of};
 
 use enc_ast::{
     Decl, Expr, ExprForm, Field, Method, Operator, Param, Program, SourceForm, Stmt, StmtForm,
-    TypeForm, TypeText,
+    TypeForm, TypeText, is_keyword,
 };
 
 /// How many variables a body can bind.
@@ -118,7 +118,7 @@ fn is_line(names: &[&str], form: &StmtForm) -> bool
 fn is_free(names: &[&str], word: &str) -> bool
     ensures { result ≡ thin.is_free (words_of names.now) word.now }
 {
-    !is_among(names, word) && word != "args"
+    !is_among(names, word) && word != "args" && !is_keyword(word)
 }
 
 fn is_among(names: &[&str], word: &str) -> bool
