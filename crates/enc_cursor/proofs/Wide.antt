@@ -29,6 +29,10 @@ total_size (m ∷ l) = sizes m + total_size l
 pub wide_limits : ℕ → Limits
 wide_limits n = record { brackets = n; counts = record { letters = n; variables = n; operators = n; names = n; groups = n; traits = n } }
 
+pub wide_brackets : (n : ℕ) → (wide_limits n).brackets ≡ n
+unfolding wide_limits
+wide_brackets n = refl
+
 within_wide : (n : ℕ) (m : Mark) → size m ≤ n → mark_fits (wide_limits n) m ≡ true
 unfolding size wide_limits
 within_wide n (Bracket k) le = is_at_most k n le

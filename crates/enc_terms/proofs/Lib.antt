@@ -1,0 +1,9 @@
+pub mod NameLaws
+pub mod TypeLaws
+pub mod ExprLater
+pub mod ExprAtoms
+pub mod ExprLevels
+pub mod ExprWholes
+pub mod ExprTurns
+pub mod ExprRest
+pub mod ExprLed

@@ -1,0 +1,7 @@
+pub mod Words
+pub mod Names
+pub mod Types
+pub mod TypeReading
+pub mod Exprs
+pub mod ExprReading
+pub mod Sets
