@@ -1,10 +1,3 @@
-pub mod ClassLaws
-pub mod ExprLaws
-pub mod Laws
-pub mod LineLaws
-pub mod Loops
-pub mod NextLaws
-pub mod Texts
-pub mod OneProgram
-pub mod TokenLaws
-pub mod QuoteLaws
+pub mod DeclLaws
+pub mod OneAnswer
+pub mod Few

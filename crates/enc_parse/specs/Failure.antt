@@ -1,30 +1,46 @@
--- Why a text is refused.
-use Rattle.std.specs.Prelude.{◌≡◌, ◌<◌, ◌≤◌, ℕ, List, length, ⊤}
-use Rattle.enc_ast.specs.declared.Fail.{Fail}
-use Rattle.enc_ast.specs.declared.Fail.TheVariants.{Reject, Memory}
-use Rattle.enc_ast.specs.declared.Program.{Program}
-use Rattle.enc_ast.specs.declared.Rule.{Rule}
-use Rattle.enc_ast.specs.declared.Rule.TheVariants as rules
-use Rattle.enc_ast.specs.declared.Span.{Span}
-use Rattle.enc_parse.specs.Spells.{Spells}
+-- Why a text is refused, and where.
+use Rattle.std.specs.Prelude.{◌≡◌, ◌⊎◌, ℕ, List, length, slice_get, Option, Some, None}
+use Rattle.enc_ast.specs.declared.rules.Span.{Span}
+use Rattle.enc_ast.specs.declared.rules.Rule.TheVariants as rules
+use Rattle.enc_ast.specs.declared.rules.Reject.{Reject}
+use Rattle.enc_lex.specs.declared.tokens.Token.{Token}
+use Rattle.enc_lex.specs.Lexes.{Lexes}
+use Rattle.enc_lex.specs.Failure as lexical
+use Rattle.enc_cursor.specs.Limits.{standard}
+use Rattle.enc_cursor.specs.Answers.{FirstFailure, FirstOver}
+use Rattle.enc_parse.specs.Decls.{IsProgram}
 
--- all of a text of this size
-abbrev pub whole : ℕ → Span
-whole size = record { start = 0; end = size }
+-- the span of a token, or the empty one at the end of a text of this length
+abbrev pub span_or_end : ℕ → Option Token → Span
+span_or_end len None = record { start = len; end = len }
+span_or_end len (Some t) = t.span
 
--- The first failure of the text is of this rule, at this part of it: a case for each rule, in the order in which they are judged.
-abbrev pub FirstFailure : List ℕ → Rule → Span → Type 0
--- the text is too long
-FirstFailure text rules.Size span = (1048576 < length text) × (span ≡ whole 0)
--- the text spells nothing that is built so far
-FirstFailure text rules.Stage span = (length text ≤ 1048576) × ((program : Program) → Spells text program → ⊥) × (span ≡ whole (length text))
-FirstFailure text _ span = ⊥
+-- where the token with this number stands, or the end of a text of this length
+abbrev pub place_at : ℕ → List Token → ℕ → Span
+place_at len tokens at = span_or_end len (slice_get tokens at)
 
--- the text has a first failure
-abbrev pub HasFailure : List ℕ → Type 0
-HasFailure text = (rule : Rule) × (span : Span) × FirstFailure text rule span
+-- The tokens are refused at the first with which they begin no program, or at the end.
+pub record IsWrong (text : List ℕ) (tokens : List Token) (reject : Reject) : Type 0 where
+  pub at : ℕ
+  pub first : FirstFailure standard (IsProgram text) tokens at
+  pub is : reject ≡ record { rule = rules.Form; span = place_at (length text) tokens at }
 
--- A refusal is the text's first failure. Memory can run out at any text.
-abbrev pub Refuses : List ℕ → Fail → Type 0
-Refuses text (Reject reject) = FirstFailure text reject.rule reject.span
-Refuses text Memory = ⊤
+-- The tokens are refused at the first by which a limit is passed.
+pub record IsOver (text : List ℕ) (tokens : List Token) (reject : Reject) : Type 0 where
+  pub at : ℕ
+  pub first : FirstOver standard (IsProgram text) tokens at
+  pub is : reject ≡ record { rule = rules.Limit; span = place_at (length text) tokens at }
+
+-- the first failure of the tokens of a text
+abbrev pub RefusesTokens : List ℕ → List Token → Reject → Type 0
+RefusesTokens text tokens reject = IsWrong text tokens reject ⊎ IsOver text tokens reject
+
+-- The text has tokens, and they are refused.
+pub record IsUnfit (text : List ℕ) (reject : Reject) : Type 0 where
+  pub tokens : List Token
+  pub lexes : Lexes text tokens
+  pub unfit : RefusesTokens text tokens reject
+
+-- the first failure of a text
+abbrev pub Refuses : List ℕ → Reject → Type 0
+Refuses text reject = lexical.Refuses text reject ⊎ IsUnfit text reject

@@ -1,7 +1,5 @@
-pub mod Failure
-pub mod Grammar
-pub mod Lexemes
-pub mod Reading
-pub mod Scan
+pub mod Decls
+pub mod DeclReading
 pub mod Spells
-pub mod Steps
+pub mod Failure
+pub mod Answers

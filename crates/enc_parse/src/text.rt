@@ -1,88 +1,97 @@
 // The program of a whole text, or the text's first failure.
-ghost use Rattle.std.specs.Prelude.{◌≡◌, ◌≤◌, ◌^◌, ◌<◌, length, IfOk, IfErr, IsTrue};
+ghost use Rattle.std.specs.Prelude.{◌≡◌, ◌≤◌, ◌<◌, ◌^◌, IfOk, IfErr, length};
+ghost use Rattle.enc_ast.specs.declared.rules.Reject.{Reject};
 ghost use Rattle.enc_ast.specs.declared.Program.{Program};
-ghost use Rattle.enc_ast.specs.Thin.{is_thin, body_of};
-ghost use Rattle.enc_parse.specs.Failure.{Refuses, whole};
-ghost use Rattle.enc_parse.specs.Reading as reading;
-ghost use Rattle.enc_parse.specs.Reading.{Gives};
-ghost use Rattle.enc_parse.specs.Spells.{Spells};
+ghost use Rattle.enc_ast.specs.Thin.{body_of};
+ghost use Rattle.enc_lex.specs.Lexes.{max_len};
+ghost use Rattle.enc_cursor.specs.Limits.{standard};
+ghost use Rattle.enc_cursor.specs.Answers.{Fits};
+ghost use Rattle.enc_parse.specs.Decls.{IsProgram};
+ghost use Rattle.enc_parse.specs.Spells.{Spells, whole};
+ghost use Rattle.enc_parse.specs.Failure.{Refuses, place_at};
+ghost use Rattle.enc_parse.specs.Answers.{FailsTokens, Fails, GivesProgram, GivesFailure, OneAnswer};
 
-use crate::classes::{main_class, row_of};
-use crate::cursor::Cursor;
-use crate::error::ParseError;
-use enc_ast::{Decl, Fail, Program, Reject, Rule, Span};
-use enc_model::thin;
+use crate::decls::declarations;
+use enc_ast::{Decl, Fail, Program, Reject, Row, Rule, Span};
+use enc_cursor::{Cursor, MAX_BRACKETS, ParseError};
+use enc_lex::{Token, lex};
 use std::alloc::Global;
 
-const MAX_SIZE: usize = 1_048_576;
-
-fn whole(size: u32) -> Span
-    ensures { result ≡ whole size }
+/// Where the token with this number stands, or the end of a text of this length.
+fn place_at(len: u32, tokens: &[Token], at: usize) -> Span
+    ensures { result ≡ place_at len tokens.now at }
 {
-    Span {
-        start: 0,
-        end: size,
+    match tokens.get(at) {
+        Some(token) => token.span,
+        None => Span {
+            start: len,
+            end: len,
+        },
     }
 }
 
-fn refused(rule: Rule, size: u32) -> Fail
-    ensures { result ≡ Fail.Reject (record { rule = rule; span = whole size }) }
+/// The declarations that the tokens of a text spell, or the first failure of the tokens.
+fn decls_of(alloc: Global, text: &[u8], tokens: &[Token]) -> Result<Row<Decl>, Fail>
+    requires { length text.now ≤ max_len }
+    ensures fits { IfOk result (λ decls. Fits standard (IsProgram text.now) tokens.now decls) }
+    ensures fails { IfErr result (λ fail. FailsTokens text.now tokens.now fail) }
 {
-    Fail::Reject(Reject {
-        rule,
-        span: whole(size),
-    })
-}
-
-#[tactic(auto, unfolding(crate::specs::Reading::program))]
-fn whole_program(alloc: Global, text: &[u8]) -> Result<Program, ParseError>
-    requires { length text.now < 2 ^ 32 }
-    ensures { Gives (reading.program text.now) result }
-{
-    let mut cursor = Cursor::new(text);
-    let class = main_class(alloc, &mut cursor)?;
-    if !cursor.is_at_end() {
-        return Err(ParseError::Form);
-    }
-    Ok(Program {
-        decls: row_of(alloc, Decl::Active(class))?,
-        span: whole(text.len() as u32),
-    })
-}
-
-/// The program of the text, where its variables are bound as they have to be.
-#[tactic(auto, unfolding(crate::specs::Reading::thin_program))]
-fn thin_program(alloc: Global, text: &[u8]) -> Result<Program, ParseError>
-    requires { length text.now < 2 ^ 32 }
-    ensures { Gives (reading.thin_program text.now) result }
-{
-    let program = whole_program(alloc, text)?;
-    if !thin(&program) {
-        return Err(ParseError::Form);
-    }
-    Ok(program)
-}
-
-/// Reads a whole text for a caller that goes on with its program, which keeps copies of its own of words and quoted
-/// texts. It answers `Rule::Size`, at the start of the text, where there are more than 1,048,576 bytes, `Rule::Stage`,
-/// at the whole text, where it spells nothing, and `Fail::Memory` where memory runs out.
-pub fn parse(alloc: Global, text: &[u8]) -> Result<Program, Fail>
-    ensures spells { IfOk result (Spells text.now) }
-    ensures only { IfOk result (λ program. (other : Program) → Spells text.now other → other ≡ program) }
-    ensures thin { IfOk result (λ program. IsTrue (is_thin program)) }
-    ensures few { IfOk result (λ program. length (body_of program) ≤ length text.now) }
-    ensures rejected { IfErr result (Refuses text.now) }
-{
-    if text.len() > MAX_SIZE {
-        return Err(refused(Rule::Size, 0));
-    }
-    let size = text.len() as u32;
-    let Ok(_) = str::from_utf8(text) else {
-        return Err(refused(Rule::Stage, size));
-    };
-    match thin_program(alloc, text) {
+    let len = text.len() as u32;
+    let mut cursor = Cursor::new(tokens);
+    match declarations(alloc, text, &mut cursor, MAX_BRACKETS) {
+        Ok(decls) => Ok(decls),
         Err(ParseError::Memory) => Err(Fail::Memory),
-        Err(ParseError::Form) => Err(refused(Rule::Stage, size)),
-        Ok(program) => Ok(program),
+        Err(ParseError::Form) => Err(Fail::Reject(Reject {
+            rule: Rule::Form,
+            span: place_at(len, tokens, tokens.len().saturating_sub(cursor.left())),
+        })),
+        Err(ParseError::Over) => Err(Fail::Reject(Reject {
+            rule: Rule::Limit,
+            span: place_at(
+                len,
+                tokens,
+                tokens.len().saturating_sub(cursor.left()).saturating_sub(1),
+            ),
+        })),
     }
+}
+
+/// The program that a text spells, or the first failure of the text.
+fn program_of(alloc: Global, text: &[u8]) -> Result<Program, Fail>
+    ensures spells { IfOk result (λ program. Spells text.now program) }
+    ensures refused { IfErr result (λ fail. Fails text.now fail) }
+{
+    let tokens = lex(alloc, text)?;
+    let decls = decls_of(alloc, text, tokens.as_slice())?;
+    Ok(Program {
+        decls,
+        span: Span {
+            start: 0,
+            end: text.len() as u32,
+        },
+    })
+}
+
+/// The program that a text spells. Spans are in bytes.
+///
+/// A text that spells none is refused at its first failure: as `enc_lex::lex` refuses it, where it has no
+/// tokens; else by `Rule::Form` at the first token with which the tokens begin no program, or at the end
+/// where they begin one and are none, or by `Rule::Limit` at the first token by which a limit is passed.
+/// Of the last two the earlier token counts, and at one token `Rule::Form`. `Fail::Memory` says nothing of
+/// the text.
+pub fn parse(alloc: Global, text: &[u8]) -> Result<Program, Fail>
+    ensures spells { IfOk result (λ program. Spells text.now program) }
+    ensures refused { IfErr result (λ fail. Fails text.now fail) }
+
+    // A text that spells a program or has a failure gets these and no others.
+    ensures only_program { (program : Program) → Spells text.now program → GivesProgram program result }
+    ensures only_failure { (reject : Reject) → Refuses text.now reject → GivesFailure reject result }
+
+    // What runs of a program has no more statements than the text has bytes.
+    ensures few { IfOk result (λ program. length (body_of program) ≤ length text.now) }
+
+    // And a text has one answer at most.
+    ensures one_answer { OneAnswer text.now }
+{
+    program_of(alloc, text)
 }

@@ -4,27 +4,23 @@ use Rattle.std.specs.Prelude.{IsSome}
 use Rattle.std.specs.Option.{option_map}
 use Rattle.std.specs.Io.KnownBytes.{Appends}
 use Rattle.enc_ast.specs.declared.Program.{Program}
-use Rattle.enc_ast.specs.declared.Rule.{Rule}
-use Rattle.enc_ast.specs.declared.Rule.TheVariants as rules
-use Rattle.enc_ast.specs.declared.Span.{Span}
 use Rattle.enc_io.specs.Causes.{AppendsPrefix}
 use Rattle.enc_io.specs.Texts.{Texts, text_of, IsReadOf}
 use Rattle.enc_io.proofs.Known.{Appends-none}
 use Rattle.enc_model.specs.declared.Pair.{Pair}
 use Rattle.enc_model.specs.Phase.{phase_of}
-use Rattle.enc_parse.specs.Failure.{FirstFailure, HasFailure, whole}
-use Rattle.enc_parse.specs.Spells.{Spells}
 use Rattle.encore_run.specs.declared.reply.Reply.{Reply}
 use Rattle.encore_run.specs.declared.status.Status.{Status}
 use Rattle.encore_run.specs.declared.status.Status.TheVariants.{Ended, Rejected, Trapped, Blocked, Budget, Memory, ReadFault, WriteFault}
 use Rattle.encore_run.specs.declared.words.Command.{Command}
+use Rattle.encore_run.specs.Built.{Runs, HasFailure}
 use Rattle.encore_run.specs.Answer as answers
 use Rattle.encore_run.specs.Answer.{IsAnswer, IsJudgement, IsDelivery, Reports, Tells, line_due}
 use Rattle.encore_run.specs.Command.{source_of}
 use Rattle.encore_run.specs.Due.{due, IsScheduleFor}
-use Rattle.encore_run.specs.Lines.{reject_line}
 use Rattle.encore_run.specs.Status.{code_of, is_one_of, Is, IsOneOf, ExactlyWhere}
 use Rattle.encore_run.proofs.Dues.{due-status, due-output, due-scheduled}
+use Rattle.encore_run.proofs.Refusals.{no_failure}
 use Rattle.encore_run.proofs.Statuses.{is-status, not-among, among, phase-among, phase-not}
 use Rattle.encore_run.proofs.WholeTexts.{judgement-read, read-front}
 
@@ -54,27 +50,6 @@ of_text asked texts before now failed pairs reply command known text (answers.ju
 pub kept : (before now : ℕ) (old new : Option (List ℕ)) (reply : Reply) (status : Status) → IsDelivery before now old new reply status → reply.output ≡ [] → status ≡ reply.status
 kept before now old new reply status (answers.whole same still appends) none = same
 kept before now old new reply status (answers.cut fault rose some front) none = absurd (some none)
-
-pub no_failure : (text : List ℕ) (program : Program) (rule : Rule) (span : Span) → Spells text program → FirstFailure text rule span → ⊥
-no_failure text program rules.Size span spells f = absurd (omega (arith, spells.short, f.0))
-no_failure text program rules.Stage span spells f = f.1 program spells
-no_failure text program _ span spells f = f
-
-one_line : (file text : List ℕ) (rule : Rule) (one two : Span) → one ≡ two → reject_line file text rule one ≡ reject_line file text rule two
-one_line file text rule one two e = ap (reject_line file text rule) e
-
-same_span : (one two is : Span) → one ≡ is → two ≡ is → one ≡ two
-same_span one two is e f = e ∙ sym f
-
--- all first failures of a text are told in one line
-pub one_failure : (file text : List ℕ) (rule other : Rule) (span place : Span) → FirstFailure text rule span → FirstFailure text other place → reject_line file text rule span ≡ reject_line file text other place
-one_failure file text rules.Size rules.Size span place f g = one_line file text rules.Size span place (same_span span place (whole 0) f.1 g.1)
-one_failure file text rules.Size rules.Stage span place f g = absurd (omega (arith, f.0, g.0))
-one_failure file text rules.Stage rules.Size span place f g = absurd (omega (arith, f.0, g.0))
-one_failure file text rules.Stage rules.Stage span place f g = one_line file text rules.Stage span place (same_span span place _ f.2 g.2)
-one_failure file text rules.Size _ span place f g = absurd g
-one_failure file text rules.Stage _ span place f g = absurd g
-one_failure file text _ other span place f g = absurd f
 
 -- ---- the status
 
@@ -118,7 +93,7 @@ ended = Ended ∷ Trapped ∷ Blocked ∷ Budget ∷ []
 abbrev ran : List Status
 ran = Ended ∷ Trapped ∷ Blocked ∷ Budget ∷ WriteFault ∷ []
 
-pub kept-legal : (command : Command) (text : List ℕ) (pairs : List Pair) (before now : ℕ) (old new : Option (List ℕ)) (reply : Reply) (status : Status) (other : Program) → IsOfText (source_of command) text pairs reply → IsDelivery before now old new reply status → Spells text other → IsOneOf ran (code_of status) → IsScheduleFor command other pairs
+pub kept-legal : (command : Command) (text : List ℕ) (pairs : List Pair) (before now : ℕ) (old new : Option (List ℕ)) (reply : Reply) (status : Status) (other : Program) → IsOfText (source_of command) text pairs reply → IsDelivery before now old new reply status → Runs text other → IsOneOf ran (code_of status) → IsScheduleFor command other pairs
 kept-legal command text pairs before now old new reply status other (unmade s o) d spelled is =
     absurd (not-among ran Memory status refl (kept before now old new reply status d o ∙ s) is)
 kept-legal command text pairs before now old new reply status other (unread s o) d spelled is =
@@ -138,7 +113,7 @@ settled command text program pairs reply status reports same =
     ap (option_map code_of) (due-status command text program pairs reports.config reports.stops)
     ∙ ap (λ s. Some (code_of s)) (sym (same ∙ reports.status))
 
-pub kept-settled : (command : Command) (text : List ℕ) (pairs : List Pair) (before now : ℕ) (old new : Option (List ℕ)) (reply : Reply) (status : Status) (other : Program) → IsOfText (source_of command) text pairs reply → IsDelivery before now old new reply status → Spells text other → IsOneOf ended (code_of status) → option_map code_of (due command text other pairs).status ≡ Some (code_of status)
+pub kept-settled : (command : Command) (text : List ℕ) (pairs : List Pair) (before now : ℕ) (old new : Option (List ℕ)) (reply : Reply) (status : Status) (other : Program) → IsOfText (source_of command) text pairs reply → IsDelivery before now old new reply status → Runs text other → IsOneOf ended (code_of status) → option_map code_of (due command text other pairs).status ≡ Some (code_of status)
 kept-settled command text pairs before now old new reply status other (unmade s o) d spelled is =
     absurd (not-among ended Memory status refl (kept before now old new reply status d o ∙ s) is)
 kept-settled command text pairs before now old new reply status other (unread s o) d spelled is =
@@ -152,7 +127,7 @@ kept-settled command text pairs before now old new reply status other (judged (a
 output_due : (command : Command) (text : List ℕ) (program : Program) (pairs : List Pair) (reply : Reply) → Reports (source_of command) text program pairs reply → reply.output ≡ (due command text program pairs).output
 output_due command text program pairs reply reports = reports.output ∙ sym (due-output command text program pairs reports.config reports.stops)
 
-pub kept-written : (command : Command) (text : List ℕ) (pairs : List Pair) (before now : ℕ) (old new : Option (List ℕ)) (reply : Reply) (status : Status) (other : Program) → IsOfText (source_of command) text pairs reply → IsDelivery before now old new reply status → Spells text other → IsOneOf ended (code_of status) → Appends old new (due command text other pairs).output
+pub kept-written : (command : Command) (text : List ℕ) (pairs : List Pair) (before now : ℕ) (old new : Option (List ℕ)) (reply : Reply) (status : Status) (other : Program) → IsOfText (source_of command) text pairs reply → IsDelivery before now old new reply status → Runs text other → IsOneOf ended (code_of status) → Appends old new (due command text other pairs).output
 kept-written command text pairs before now old new reply status other (unmade s o) d spelled is =
     absurd (not-among ended Memory status refl (kept before now old new reply status d o ∙ s) is)
 kept-written command text pairs before now old new reply status other (unread s o) d spelled is =
@@ -175,7 +150,7 @@ cut_output : (before now : ℕ) (old new : Option (List ℕ)) (reply : Reply) (s
 cut_output before now old new reply status (answers.whole same still appends) fault no_fault = absurd (no_fault (sym same ∙ fault))
 cut_output before now old new reply status (answers.cut _ rose some front) fault no_fault = front
 
-pub kept-cut_short : (command : Command) (text : List ℕ) (pairs : List Pair) (before now : ℕ) (old new history : Option (List ℕ)) (reply : Reply) (status : Status) (other : Program) → IsOfText (source_of command) text pairs reply → IsDelivery before now old new reply status → Spells text other → Is WriteFault (code_of status) → IsSome (due command text other pairs).status × AppendsPrefix old new (due command text other pairs).output × AppendsPrefix history history (due command text other pairs).history
+pub kept-cut_short : (command : Command) (text : List ℕ) (pairs : List Pair) (before now : ℕ) (old new history : Option (List ℕ)) (reply : Reply) (status : Status) (other : Program) → IsOfText (source_of command) text pairs reply → IsDelivery before now old new reply status → Runs text other → Is WriteFault (code_of status) → IsSome (due command text other pairs).status × AppendsPrefix old new (due command text other pairs).output × AppendsPrefix history history (due command text other pairs).history
 kept-cut_short command text pairs before now old new history reply status other (unmade s o) d spelled is =
     absurd (not-among (WriteFault ∷ []) Memory status refl (kept before now old new reply status d o ∙ s) is)
 kept-cut_short command text pairs before now old new history reply status other (unread s o) d spelled is =
@@ -194,7 +169,7 @@ kept-cut_short command text pairs before now old new history reply status other 
 
 -- ---- what else is said
 
-pub kept-spelled : (file text : List ℕ) (pairs : List Pair) (before now : ℕ) (old new : Option (List ℕ)) (reply : Reply) (status : Status) → IsOfText file text pairs reply → IsDelivery before now old new reply status → IsOneOf ran (code_of status) → (program : Program) × Spells text program
+pub kept-spelled : (file text : List ℕ) (pairs : List Pair) (before now : ℕ) (old new : Option (List ℕ)) (reply : Reply) (status : Status) → IsOfText file text pairs reply → IsDelivery before now old new reply status → IsOneOf ran (code_of status) → (program : Program) × Runs text program
 kept-spelled file text pairs before now old new reply status (unmade s o) d is =
     absurd (not-among ran Memory status refl (kept before now old new reply status d o ∙ s) is)
 kept-spelled file text pairs before now old new reply status (unread s o) d is =

@@ -3,6 +3,7 @@ pub mod Ends
 pub mod Found
 pub mod Judgements
 pub mod Kept
+pub mod Refusals
 pub mod Said
 pub mod Statuses
 pub mod WholeTexts

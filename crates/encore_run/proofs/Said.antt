@@ -11,12 +11,11 @@ use Rattle.enc_model.specs.declared.Phase.{Phase}
 use Rattle.enc_model.specs.declared.Phase.TheVariants as phases
 use Rattle.enc_model.specs.Exec.{steps_of}
 use Rattle.enc_model.specs.Phase.{phase_of}
-use Rattle.enc_parse.specs.Failure.{FirstFailure}
-use Rattle.enc_parse.specs.Spells.{Spells}
 use Rattle.encore_run.specs.declared.reply.Reply.{Reply}
 use Rattle.encore_run.specs.declared.status.Status.{Status}
 use Rattle.encore_run.specs.declared.status.Status.TheVariants.{Ended, Rejected, Usage, Trapped, Blocked, Budget, Memory, ReadFault, WriteFault}
 use Rattle.encore_run.specs.declared.words.Command.{Command}
+use Rattle.encore_run.specs.Built.{Runs, FirstFailure}
 use Rattle.encore_run.specs.Answer as answers
 use Rattle.encore_run.specs.Answer.{IsAnswer, IsJudgement, IsDelivery, Reports, Tells, line_due}
 use Rattle.encore_run.specs.Command.{source_of}
@@ -24,7 +23,8 @@ use Rattle.encore_run.specs.Due.{due, status_of, stop_line}
 use Rattle.encore_run.specs.Lines.{read_line, reject_line}
 use Rattle.encore_run.specs.Status.{code_of, Is, IsOneOf}
 use Rattle.encore_run.proofs.Dues.{due-line}
-use Rattle.encore_run.proofs.Kept.{IsOfText, unmade, unread, judged, kept, delivered, no_failure, one_failure}
+use Rattle.encore_run.proofs.Kept.{IsOfText, unmade, unread, judged, kept, delivered}
+use Rattle.encore_run.proofs.Refusals.{no_failure, one_failure}
 use Rattle.encore_run.proofs.Statuses.{is-status, not-among, phase-not}
 
 -- a status that has a line of its own
@@ -102,7 +102,7 @@ said-rejected file text pairs before now old new reply status S (judged (answers
 abbrev stopped : List Status
 stopped = Trapped ∷ Blocked ∷ Budget ∷ []
 
-pub said-stopped : (command : Command) (text : List ℕ) (pairs : List Pair) (before now : ℕ) (old new : Option (List ℕ)) (reply : Reply) (status : Status) (S : List ℕ → Type 0) (other : Program) → IsOfText (source_of command) text pairs reply → IsDelivery before now old new reply status → S (line_due status reply.line) → Spells text other → IsOneOf stopped (code_of status) → S (due command text other pairs).line
+pub said-stopped : (command : Command) (text : List ℕ) (pairs : List Pair) (before now : ℕ) (old new : Option (List ℕ)) (reply : Reply) (status : Status) (S : List ℕ → Type 0) (other : Program) → IsOfText (source_of command) text pairs reply → IsDelivery before now old new reply status → S (line_due status reply.line) → Runs text other → IsOneOf stopped (code_of status) → S (due command text other pairs).line
 said-stopped command text pairs before now old new reply status S other (unmade s o) d got spelled is =
     absurd (not-among stopped Memory status refl (kept before now old new reply status d o ∙ s) is)
 said-stopped command text pairs before now old new reply status S other (unread s o) d got spelled is =

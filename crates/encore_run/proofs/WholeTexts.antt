@@ -1,15 +1,15 @@
 -- What the first bytes of a file say of its whole text.
-use Rattle.std.proofs.Common.{◌≡◌, ◌≤◌, ◌<◌, ◌∙◌, ℕ, List, length, take, Option, Some, None, sym, ap, subst, arith, length-take}
+use Rattle.std.proofs.Common.{◌≡◌, ◌≤◌, ◌<◌, ◌∙◌, ℕ, List, length, take, Option, Some, None, sym, ap, subst, arith, length-take, inl, inr}
 use Rattle.std.proofs.lemmas.List.{take_all}
 use Rattle.enc_ast.specs.declared.Program.{Program}
 use Rattle.enc_ast.specs.declared.Rule.{Rule}
-use Rattle.enc_ast.specs.declared.Rule.TheVariants as rules
+use Rattle.enc_ast.specs.declared.Reject.{Reject}
 use Rattle.enc_ast.specs.declared.Span.{Span}
 use Rattle.enc_io.specs.Texts.{Texts, text_of, IsReadOf}
 use Rattle.enc_model.specs.declared.Pair.{Pair}
-use Rattle.enc_parse.specs.Failure.{FirstFailure, whole}
-use Rattle.enc_parse.specs.Spells.{Spells}
+use Rattle.enc_parse.specs.Spells.{whole}
 use Rattle.encore_run.specs.declared.reply.Reply.{Reply}
+use Rattle.encore_run.specs.Built.{Runs, FirstFailure}
 use Rattle.encore_run.specs.Answer.{IsJudgement, rejected, ran, Tells}
 use Rattle.encore_run.specs.Lines.{reject_line}
 
@@ -34,17 +34,28 @@ same_line : (file text bytes : List ℕ) (rule : Rule) (span : Span) → span �
 same_line file text bytes rule span e =
     ap (reject_line file bytes rule) e ∙ sym (ap (reject_line file text rule) e)
 
-tells-read : (file text bytes line : List ℕ) (rule : Rule) (span : Span) → FirstFailure bytes rule span → line ≡ reject_line file bytes rule span → bytes ≡ take 1048577 text → Tells file text line
-tells-read file text bytes line rules.Size span f says e =
-    let long : 1048576 < length text = lt-le f.0 (no_longer 1048577 text bytes e) in
-    record { rule = rules.Size; span = span; fails = (long, f.1); says = says ∙ same_line file text bytes rules.Size span f.1 }
-tells-read file text bytes line rules.Stage span f says e =
-    subst (λ (x : List ℕ). Tells file x line) (read-whole text bytes e f.0) (record { rule = rules.Stage; span = span; fails = f; says = says })
-tells-read file text bytes line _ span f says e = absurd f
+-- a failure of a text that is not too long is told of the whole
+tells-whole : (file text bytes line : List ℕ) (rule : Rule) (span : Span) → FirstFailure bytes rule span → line ≡ reject_line file bytes rule span → bytes ≡ take 1048577 text → length bytes ≤ 1048576 → Tells file text line
+tells-whole file text bytes line rule span f says e few =
+    subst (λ (x : List ℕ). Tells file x line) (read-whole text bytes e few) (record { rule = rule; span = span; fails = f; says = says })
 
-ran-read : (file text bytes : List ℕ) (pairs : List Pair) (reply : Reply) (program : Program) → Spells bytes program → IsJudgement file bytes pairs reply → bytes ≡ take 1048577 text → IsJudgement file text pairs reply
-ran-read file text bytes pairs reply program spells judgement e =
-    subst (λ (x : List ℕ). IsJudgement file x pairs reply) (read-whole text bytes e spells.short) judgement
+tells-read : (file text bytes line : List ℕ) (rule : Rule) (span : Span) → FirstFailure bytes rule span → line ≡ reject_line file bytes rule span → bytes ≡ take 1048577 text → Tells file text line
+tells-read file text bytes line rule span (inl (inl (inl size))) says e =
+    let long : 1048576 < length text = lt-le size.long (no_longer 1048577 text bytes e) in
+    record {
+      rule = rule;
+      span = span;
+      fails = inl (inl (inl (record { long = long; is = size.is })));
+      says = says ∙ same_line file text bytes rule span (ap (λ (r : Reject). r.span) size.is);
+    }
+tells-read file text bytes line rule span (inl (inl (inr (inl broken)))) says e = tells-whole file text bytes line rule span (inl (inl (inr (inl broken)))) says e broken.short
+tells-read file text bytes line rule span (inl (inl (inr (inr stuck)))) says e = tells-whole file text bytes line rule span (inl (inl (inr (inr stuck)))) says e stuck.short
+tells-read file text bytes line rule span (inl (inr unfit)) says e = tells-whole file text bytes line rule span (inl (inr unfit)) says e unfit.lexes.short
+tells-read file text bytes line rule span (inr unbuilt) says e = tells-whole file text bytes line rule span (inr unbuilt) says e unbuilt.spells.lexes.short
+
+ran-read : (file text bytes : List ℕ) (pairs : List Pair) (reply : Reply) (program : Program) → Runs bytes program → IsJudgement file bytes pairs reply → bytes ≡ take 1048577 text → IsJudgement file text pairs reply
+ran-read file text bytes pairs reply program runs judgement e =
+    subst (λ (x : List ℕ). IsJudgement file x pairs reply) (read-whole text bytes e runs.spells.lexes.short) judgement
 
 -- a judgement on the first bytes is one on the whole text
 pub judgement-read : (file text bytes : List ℕ) (pairs : List Pair) (reply : Reply) → IsJudgement file bytes pairs reply → bytes ≡ take 1048577 text → IsJudgement file text pairs reply

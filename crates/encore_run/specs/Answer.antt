@@ -10,12 +10,11 @@ use Rattle.enc_model.specs.declared.Config.{Config}
 use Rattle.enc_model.specs.declared.Pair.{Pair}
 use Rattle.enc_model.specs.Exec.{steps_of}
 use Rattle.enc_model.specs.Phase.{phase_of}
-use Rattle.enc_parse.specs.Failure.{FirstFailure}
-use Rattle.enc_parse.specs.Spells.{Spells}
 use Rattle.encore_run.specs.declared.reply.Reply.{Reply}
 use Rattle.encore_run.specs.declared.status.Status.{Status}
 use Rattle.encore_run.specs.declared.status.Status.TheVariants.{Ended, Rejected, Usage, Trapped, Blocked, Budget, Memory, ReadFault, WriteFault}
 use Rattle.encore_run.specs.declared.words.Command.{Command}
+use Rattle.encore_run.specs.Built.{Runs, FirstFailure}
 use Rattle.encore_run.specs.Command.{source_of}
 use Rattle.encore_run.specs.Due.{StopsAt, status_of, stop_line}
 use Rattle.encore_run.specs.Lines.{usage_line, memory_line, write_line, read_line, reject_line}
@@ -40,7 +39,7 @@ pub record Reports (file text : List ℕ) (program : Program) (pairs : List Pair
 -- What a text comes to: it has a first failure, or the program that it spells has run.
 pub data IsJudgement (file text : List ℕ) (pairs : List Pair) (reply : Reply) : Type 0 where
   rejected : reply.status ≡ Rejected → reply.output ≡ [] → pairs ≡ [] → Tells file text reply.line → IsJudgement file text pairs reply
-  ran : (program : Program) → Spells text program → ((other : Program) → Spells text other → other ≡ program) → Reports file text program pairs reply → IsJudgement file text pairs reply
+  ran : (program : Program) → Runs text program → ((other : Program) → Runs text other → other ≡ program) → Reports file text program pairs reply → IsJudgement file text pairs reply
 
 -- What the reply is, where this was asked for and the faults of the files went from one count to the other.
 pub data IsAnswer (asked : Option Command) (texts : Option Texts) (before now : ℕ) (failed : Option (List ℕ)) (pairs : List Pair) (reply : Reply) : Type 0 where

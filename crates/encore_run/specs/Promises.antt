@@ -8,10 +8,9 @@ use Rattle.enc_ast.specs.declared.Span.{Span}
 use Rattle.enc_io.specs.Causes.{AppendsPrefix}
 use Rattle.enc_io.specs.Texts.{Texts, text_of}
 use Rattle.enc_model.specs.declared.Pair.{Pair}
-use Rattle.enc_parse.specs.Failure.{FirstFailure, HasFailure}
-use Rattle.enc_parse.specs.Spells.{Spells}
 use Rattle.encore_run.specs.declared.status.Status.TheVariants.{Ended, Rejected, Usage, Trapped, Blocked, Budget, Memory, ReadFault, WriteFault}
 use Rattle.encore_run.specs.declared.words.Command.{Command}
+use Rattle.encore_run.specs.Built.{Runs, FirstFailure, HasFailure}
 use Rattle.encore_run.specs.Command.{command_of, source_of, records}
 use Rattle.encore_run.specs.Due.{due, IsScheduleFor}
 use Rattle.encore_run.specs.Lines.{usage_line, memory_line, write_line, read_line, reject_line}
@@ -64,10 +63,10 @@ LeavesHistory words old new = (command : Command) → command_of words ≡ Some 
 
 -- ---- where the command has run
 
--- the source spells a program
+-- the source spells a program that runs
 abbrev pub HasProgram : List (List ℕ) → Option Texts → ℕ → Type 0
 HasProgram words texts code = OfSource words texts (λ command text.
-    IsOneOf (Ended ∷ Trapped ∷ Blocked ∷ Budget ∷ WriteFault ∷ []) code → (program : Program) × Spells text program)
+    IsOneOf (Ended ∷ Trapped ∷ Blocked ∷ Budget ∷ WriteFault ∷ []) code → (program : Program) × Runs text program)
 
 -- the schedule is one that the command may hand back
 abbrev pub HandsBackSchedule : List (List ℕ) → Option Texts → List Pair → ℕ → Type 0

@@ -2,6 +2,7 @@
 ghost use Rattle.std.specs.Prelude.{◌≡◌, ◌<◌, ◌≤◌, ◌^◌, ◌-◌, [], length, IfOk, IsTrue, None, Some};
 ghost use Rattle.enc_ast.specs.Thin.{is_thin, body_of};
 ghost use Rattle.enc_model.specs.Phase.{phase_of};
+ghost use Rattle.enc_parse.specs.Spells.{Spells};
 ghost use Rattle.encore_run.specs.Answer.{IsAnswer, IsJudgement, Reports};
 ghost use Rattle.encore_run.specs.Command.{words_of, command_of, source_of};
 ghost use Rattle.encore_run.specs.Due.{status_of, stop_line};
@@ -12,9 +13,9 @@ use crate::lines::{blocked_line, budget_line, read_line, reject_line, trap_line}
 use crate::reply::Reply;
 use crate::run::drive;
 use crate::words::{Command, read_words};
-use enc_ast::{Fail, Program, Word};
+use enc_ast::{Fail, Program, Reject, Rule, Word};
 use enc_io::{Files, ReadFail, read_all};
-use enc_model::{Config, Phase, Plain, Schedule};
+use enc_model::{Config, Phase, Plain, Schedule, thin};
 use enc_parse::parse;
 use std::alloc::{AllocError, Global};
 
@@ -85,8 +86,33 @@ fn judge(
             let line = reject_line(alloc, file, text, reject)?;
             Ok(Reply::said(alloc, Status::Rejected, line))
         }
-        Ok(program) => run(alloc, file, text, program, schedule),
+        Ok(program) => judge_program(alloc, file, text, program, schedule),
     }
+}
+
+/// What the program of a source comes to.
+fn judge_program(
+    alloc: Global,
+    file: &str,
+    text: &[u8],
+    program: Program,
+    schedule: &mut Schedule,
+) -> Result<Reply, AllocError>
+    requires spells { Spells text.now program }
+    requires few { length (body_of program) ≤ length text.now }
+    requires fresh { schedule.old.pairs ≡ [] }
+    requires short { length text.now ≤ 1048577 }
+    ensures { IfOk result (IsJudgement file.now text.now schedule.new.pairs) }
+{
+    if !thin(&program) {
+        let reject = Reject {
+            rule: Rule::Stage,
+            span: program.span,
+        };
+        let line = reject_line(alloc, file, text, reject)?;
+        return Ok(Reply::said(alloc, Status::Rejected, line));
+    }
+    run(alloc, file, text, program, schedule)
 }
 
 /// Runs a program, and tells how it ended.

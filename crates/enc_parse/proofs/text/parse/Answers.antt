@@ -1,20 +1,19 @@
-use Rattle.std.proofs.Common.{refl, arith}
-use Rattle.enc_parse.proofs.OneProgram.{read_spells, read_only, read_thin, read_few, unread}
+use Rattle.std.proofs.Common.{length, ◌≤◌}
+use Rattle.enc_ast.specs.Thin.{body_of}
+use Rattle.enc_lex.proofs.OneAnswer.{ok_weaker}
+use Rattle.enc_parse.specs.Spells.{Spells}
+use Rattle.enc_parse.proofs.Few.{few}
+use Rattle.enc_parse.proofs.OneAnswer.{only_program, only_failure, one_answer}
 use Rattle.enc_parse.proofs.text.parse.Goals as goal
 
-pub returns-in-Err-Form-clause-rejected : goal.returns-in-Err-Form-clause-rejected
-returns-in-Err-Form-clause-rejected c =
-    let e = rw c.in-Err-Form.field-0-is at c.in-Err-Form.ensures in
-    rw c.refused-in-Err-Form.ensures (omega arith, (λ other s. unread c.args.text.now other e s), refl)
+pub returns-clause-only_program : goal.returns-clause-only_program
+returns-clause-only_program c = only_program c.args.text.now c.program_of.result c.program_of.ensures.spells c.program_of.ensures.refused
 
-pub returns-in-Ok-thin_program-clause-spells : goal.returns-in-Ok-thin_program-clause-spells
-returns-in-Ok-thin_program-clause-spells c = read_spells c.args.text.now c.in-Ok-thin_program.program (omega arith) c.in-Ok.ensures.cases.1 c.in-Ok-thin_program.ensures
+pub returns-clause-only_failure : goal.returns-clause-only_failure
+returns-clause-only_failure c = only_failure c.args.text.now c.program_of.result c.program_of.ensures.spells c.program_of.ensures.refused
 
-pub returns-in-Ok-thin_program-clause-only : goal.returns-in-Ok-thin_program-clause-only
-returns-in-Ok-thin_program-clause-only c = λ other s. read_only c.args.text.now c.in-Ok-thin_program.program other c.in-Ok-thin_program.ensures s
+pub returns-clause-one_answer : goal.returns-clause-one_answer
+returns-clause-one_answer c = one_answer c.args.text.now
 
-pub returns-in-Ok-thin_program-clause-thin : goal.returns-in-Ok-thin_program-clause-thin
-returns-in-Ok-thin_program-clause-thin c = read_thin c.args.text.now c.in-Ok-thin_program.program c.in-Ok-thin_program.ensures
-
-pub returns-in-Ok-thin_program-clause-few : goal.returns-in-Ok-thin_program-clause-few
-returns-in-Ok-thin_program-clause-few c = read_few c.args.text.now c.in-Ok-thin_program.program c.in-Ok-thin_program.ensures
+pub returns-clause-few : goal.returns-clause-few
+returns-clause-few c = ok_weaker (Spells c.args.text.now) (λ program. length (body_of program) ≤ length c.args.text.now) c.program_of.result (few c.args.text.now) c.program_of.ensures.spells
