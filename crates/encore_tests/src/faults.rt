@@ -1,167 +1,225 @@
 // Runs in which a call of the outside fails.
 
-use crate::outside::{Due, Flow, HELLO, OPEN, Setting, ended, narrow, program, run, run_of, unrun};
+use crate::answer::{Answer, Due, STAGE_LINE, ended, run, unrun};
+use crate::outside::{Flow, HELLO, OPEN, Setting, narrow, program, run_of};
+use std::alloc::{AllocError, Global};
+use std::process::Abort;
 use std::test::Fail;
 
-const CANNOT_WRITE: &str = "cannot write\n";
+const UNREAD_LINE: &str = "p.enc: cannot read\n";
 
-fn cut(output: &str) -> Due<'_> {
-    Due {
-        status: 8,
-        output,
-        said: CANNOT_WRITE,
-        steps: 3,
-    }
-}
-
-#[test]
-fn reads_can_fail(rt: HostRuntime) -> Result<(), Fail> {
-    let alloc = rt.alloc();
+/// A run of a program that prints one line, in which this call of the files fails.
+fn run_unread(alloc: Global, read_fault: u64) -> Result<Answer, AllocError> {
     let hello = run_of(HELLO.as_bytes());
-    // The file is begun, then read, and read again to see that it is at its end.
-    for read_fault in 1..=3 {
-        let outside = run(
-            alloc,
-            Setting {
-                read_fault,
-                ..hello
-            },
-        )?;
-        outside.check(&rt, "a failed read", unrun(7, "p.enc: cannot read\n"));
-        assert_eq!(rt; outside.files.faults(), 1, "at {read_fault}");
-    }
-    let read_fault = 4;
-    let outside = run(
+    run(
         alloc,
         Setting {
             read_fault,
             ..hello
         },
-    )?;
-    outside.check(&rt, "a read that isn't made", ended("hi\n", 3));
-    assert_eq!(rt; outside.files.faults(), 0);
+    )
+}
+
+// The file is begun, then read, and read again to see that it is at its end.
+#[test]
+fn reads_can_fail(rt: HostRuntime) -> Result<(), Fail> {
+    for read_fault in 1..=3 {
+        let answer = run_unread(rt.alloc(), read_fault)?;
+        answer.check(&rt, "a failed read", unrun(7, UNREAD_LINE));
+        assert_eq!(rt; answer.outside.files.faults(), 1, "at {read_fault}");
+    }
+    Ok(())
+}
+
+#[test]
+fn no_more_reads_are_made(rt: HostRuntime) -> Result<(), Fail> {
+    let answer = run_unread(rt.alloc(), 4)?;
+    answer.check(&rt, "a read that isn't made", ended("hi\n", 3));
+    assert_eq!(rt; answer.outside.files.faults(), 0);
+    Ok(())
+}
+
+/// A run of a program that prints one line, whose output flows so.
+fn run_out(alloc: Global, out: Flow) -> Result<Answer, AllocError> {
+    let hello = run_of(HELLO.as_bytes());
+    run(alloc, Setting { out, ..hello })
+}
+
+/// Asserts that an output that flows so is cut off behind this front part.
+fn check_cut(rt: &impl Abort, alloc: Global, out: Flow, output: &str) -> Result<(), AllocError> {
+    let due = Due {
+        status: 8,
+        output,
+        said: "cannot write\n",
+        steps: 3,
+    };
+    let answer = run_out(alloc, out)?;
+    answer.check(rt, output, due);
+    assert_eq!(rt; answer.outside.out.faults(), 1, "behind {output}");
     Ok(())
 }
 
 #[test]
 fn writes_can_fail(rt: HostRuntime) -> Result<(), Fail> {
     let alloc = rt.alloc();
-    let hello = run_of(HELLO.as_bytes());
-    for (fault, front) in [(1, ""), (2, "h"), (3, "hi")] {
-        let out = narrow(fault);
-        let outside = run(alloc, Setting { out, ..hello })?;
-        outside.check(&rt, front, cut(front));
-        assert_eq!(rt; outside.out.faults(), 1, "at {fault}");
+    check_cut(&rt, alloc, narrow(1), "")?;
+    check_cut(&rt, alloc, narrow(2), "h")?;
+    check_cut(&rt, alloc, narrow(3), "hi")?;
+    Ok(())
+}
+
+/// A sink with room for so many bytes.
+fn with_room(room: usize) -> Flow {
+    Flow { room, ..OPEN }
+}
+
+#[test]
+fn outputs_can_be_full(rt: HostRuntime) -> Result<(), Fail> {
+    let alloc = rt.alloc();
+    check_cut(&rt, alloc, with_room(0), "")?;
+    check_cut(&rt, alloc, with_room(1), "h")?;
+    check_cut(&rt, alloc, with_room(2), "hi")?;
+    Ok(())
+}
+
+#[test]
+fn outputs_can_suffice(rt: HostRuntime) -> Result<(), Fail> {
+    for out in [narrow(0), narrow(4), with_room(3)] {
+        let answer = run_out(rt.alloc(), out)?;
+        answer.check(&rt, "enough room", ended("hi\n", 3));
+        assert_eq!(rt; answer.outside.out.faults(), 0);
     }
-    for (room, front) in [(0, ""), (1, "h"), (2, "hi")] {
-        let out = Flow { room, ..OPEN };
-        let outside = run(alloc, Setting { out, ..hello })?;
-        outside.check(&rt, front, cut(front));
-        assert_eq!(rt; outside.out.faults(), 1, "at {room}");
-    }
-    for out in [narrow(0), narrow(4), Flow { room: 3, ..OPEN }] {
-        let outside = run(alloc, Setting { out, ..hello })?;
-        outside.check(&rt, "enough room", ended("hi\n", 3));
-        assert_eq!(rt; outside.out.faults(), 0);
-    }
-    // No write is made where nothing is due.
+    Ok(())
+}
+
+#[test]
+fn nothing_is_written_where_nothing_is_due(rt: HostRuntime) -> Result<(), Fail> {
     let empty = run_of(b"");
     let out = narrow(1);
-    let refused = run(alloc, Setting { out, ..empty })?;
-    refused.check(&rt, "a refused text", unrun(1, "p.enc:1:1: STAGE\n"));
-    assert_eq!(rt; refused.out.faults(), 0);
+    let answer = run(rt.alloc(), Setting { out, ..empty })?;
+    answer.check(&rt, "a refused text", unrun(1, STAGE_LINE));
+    assert_eq!(rt; answer.outside.out.faults(), 0);
+    Ok(())
+}
+
+/// Lines of which the first prints and the second traps.
+const TRAPPING: &str = "print 5;\nprint 9223372036854775807 + 1;";
+
+/// Asserts that a trap is told so far where this call of the error stream fails.
+fn check_trap(rt: &impl Abort, alloc: Global, fault: u64, said: &str) -> Result<(), AllocError> {
+    let text = program(alloc, TRAPPING)?;
+    let traps = run_of(text.as_bytes());
+    let err = narrow(fault);
+    let due = Due {
+        status: 3,
+        output: "5\n",
+        said,
+        steps: 3,
+    };
+    let answer = run(alloc, Setting { err, ..traps })?;
+    answer.check(rt, said, due);
+    assert_eq!(rt; answer.outside.err.faults(), 1, "at {fault}");
     Ok(())
 }
 
 #[test]
-fn error_stream_can_fail(rt: HostRuntime) -> Result<(), Fail> {
+fn traps_are_told_in_part(rt: HostRuntime) -> Result<(), Fail> {
     let alloc = rt.alloc();
-    let text = program(alloc, "print 5;\nprint 9223372036854775807 + 1;")?;
-    let traps = run_of(text.as_bytes());
     let line = "p.enc:3:1: OVERFLOW in actor 0";
     assert_eq!(rt; line.len(), 30);
-    for (fault, said) in [(1, ""), (2, "p"), (31, line)] {
-        let err = narrow(fault);
-        let outside = run(alloc, Setting { err, ..traps })?;
-        let due = Due {
-            status: 3,
-            output: "5\n",
-            said,
-            steps: 3,
-        };
-        outside.check(&rt, said, due);
-        assert_eq!(rt; outside.err.faults(), 1, "at {fault}");
-    }
-    for (fault, said) in [(1, ""), (13, "cannot write")] {
-        let out = narrow(2);
-        let err = narrow(fault);
-        let outside = run(alloc, Setting { out, err, ..traps })?;
-        let due = Due {
-            status: 8,
-            output: "5",
-            said,
-            steps: 3,
-        };
-        outside.check(&rt, said, due);
-    }
+    check_trap(&rt, alloc, 1, "")?;
+    check_trap(&rt, alloc, 2, "p")?;
+    check_trap(&rt, alloc, 31, line)?;
+    Ok(())
+}
+
+/// Asserts that a cut output is told so far where this call of the error stream fails too.
+fn check_both(rt: &impl Abort, alloc: Global, fault: u64, said: &str) -> Result<(), AllocError> {
+    let text = program(alloc, TRAPPING)?;
+    let traps = run_of(text.as_bytes());
+    let out = narrow(2);
+    let err = narrow(fault);
+    let due = Due {
+        status: 8,
+        output: "5",
+        said,
+        steps: 3,
+    };
+    let answer = run(alloc, Setting { out, err, ..traps })?;
+    answer.check(rt, said, due);
     Ok(())
 }
 
 #[test]
-fn every_stream_can_fail(rt: HostRuntime) -> Result<(), Fail> {
+fn both_streams_can_fail(rt: HostRuntime) -> Result<(), Fail> {
     let alloc = rt.alloc();
+    check_both(&rt, alloc, 1, "")?;
+    check_both(&rt, alloc, 13, "cannot write")?;
+    Ok(())
+}
+
+#[test]
+fn refusals_are_told_in_part(rt: HostRuntime) -> Result<(), Fail> {
     let empty = run_of(b"");
     for (fault, said) in [(1, ""), (17, "p.enc:1:1: STAGE")] {
         let err = narrow(fault);
-        let outside = run(alloc, Setting { err, ..empty })?;
-        outside.check(&rt, said, unrun(1, said));
+        let answer = run(rt.alloc(), Setting { err, ..empty })?;
+        answer.check(&rt, said, unrun(1, said));
     }
+    Ok(())
+}
+
+#[test]
+fn files_and_errors_can_fail(rt: HostRuntime) -> Result<(), Fail> {
+    let empty = run_of(b"");
     for (fault, said) in [(1, ""), (19, "p.enc: cannot read")] {
         let err = narrow(fault);
         let read_fault = 1;
-        let outside = run(
-            alloc,
-            Setting {
-                err,
-                read_fault,
-                ..empty
-            },
-        )?;
-        outside.check(&rt, said, unrun(7, said));
-    }
-    let words = &["check"];
-    let err = Flow { room: 0, ..OPEN };
-    let outside = run(
-        alloc,
-        Setting {
-            words,
+        let setting = Setting {
             err,
+            read_fault,
             ..empty
-        },
-    )?;
-    outside.check(&rt, "an error stream without room", unrun(2, ""));
+        };
+        let answer = run(rt.alloc(), setting)?;
+        answer.check(&rt, said, unrun(7, said));
+    }
+    Ok(())
+}
+
+#[test]
+fn usage_can_go_untold(rt: HostRuntime) -> Result<(), Fail> {
+    let empty = run_of(b"");
+    let setting = Setting {
+        words: &["check"],
+        err: with_room(0),
+        ..empty
+    };
+    run(rt.alloc(), setting)?.check(&rt, "an error stream without room", unrun(2, ""));
     Ok(())
 }
 
 // Where an allocation fails, the run says so and has written nothing, or it is as it would be.
 #[test]
 fn memory_can_run_out(rt: HostRuntime) {
-    let alloc = rt.alloc();
-    let Ok(outside) = run(alloc, run_of(HELLO.as_bytes())) else {
+    let Ok(answer) = run(rt.alloc(), run_of(HELLO.as_bytes())) else {
         return;
     };
-    let steps = outside.schedule.pairs.len();
-    if outside.status == 6 {
+    let steps = answer.outside.schedule.pairs.len();
+    if answer.status == 6 {
         assert!(rt; steps <= 3);
         let due = Due {
             steps,
             ..unrun(6, "out of memory\n")
         };
-        outside.check(&rt, "a run out of memory", due);
+        answer.check(&rt, "a run out of memory", due);
     } else {
-        outside.check(&rt, "a run with memory", ended("hi\n", 3));
+        answer.check(&rt, "a run with memory", ended("hi\n", 3));
     }
-    assert_eq!(rt; outside.files.faults(), 0);
-    assert_eq!(rt; outside.out.faults(), 0);
-    assert_eq!(rt; outside.err.faults(), 0);
+    check_faultless(&rt, &answer);
+}
+
+fn check_faultless(rt: &impl Abort, answer: &Answer) {
+    assert_eq!(rt; answer.outside.files.faults(), 0);
+    assert_eq!(rt; answer.outside.out.faults(), 0);
+    assert_eq!(rt; answer.outside.err.faults(), 0);
 }

@@ -1,7 +1,7 @@
 // The tokens of a text, and what they stand for.
 
 use enc_ast::{Fail as Refusal, Reject, Rule, Span};
-use enc_lex::{Kind, Token, bytes_at, int_value, lex, text_bytes, word_of};
+use enc_lex::{Kind, MAX_LEN, Token, bytes_at, int_value, lex, text_bytes, word_of};
 use std::test::Fail;
 
 fn token(kind: Kind, start: u32, end: u32) -> Token {
@@ -36,6 +36,21 @@ fn tokens_can_be_bad(rt: HostRuntime) {
     });
     assert!(rt; matches!(lex(alloc, &[255]), Err(found) if found == refusal));
     assert!(rt; matches!(lex(alloc, b"9223372036854775808"), Err(found) if found == refusal));
+}
+
+#[test]
+fn texts_can_be_too_long(rt: HostRuntime) -> Result<(), Fail> {
+    let alloc = rt.alloc();
+    assert_eq!(rt; MAX_LEN, 1_048_576);
+    let longest = vec![in alloc; b' '; MAX_LEN]?;
+    assert!(rt; lex(alloc, &longest)?.is_empty());
+    let refusal = Refusal::Reject(Reject {
+        rule: Rule::Size,
+        span: Span { start: 0, end: 0 },
+    });
+    let longer = vec![in alloc; b' '; MAX_LEN + 1]?;
+    assert!(rt; matches!(lex(alloc, &longer), Err(found) if found == refusal));
+    Ok(())
 }
 
 #[test]

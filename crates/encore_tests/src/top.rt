@@ -1,8 +1,7 @@
 // Runs from a program's file to what they write.
 
-use crate::outside::{
-    Due, HELLO, Setting, check_lines, ended, refused, run, run_main, run_of, unrun,
-};
+use crate::answer::{Due, check_lines, ended, refused, run, run_main, unrun};
+use crate::outside::{HELLO, Setting, run_of};
 use std::alloc::{AllocError, Global};
 use std::test::Fail;
 
@@ -82,9 +81,9 @@ fn wants_its_words(rt: HostRuntime) -> Result<(), Fail> {
             read_fault,
             ..hello
         };
-        let outside = run(alloc, setting)?;
-        outside.check(&rt, "words that are no command", unrun(2, USAGE));
-        assert_eq!(rt; outside.files.faults(), 0);
+        let answer = run(alloc, setting)?;
+        answer.check(&rt, "words that are no command", unrun(2, USAGE));
+        assert_eq!(rt; answer.outside.files.faults(), 0);
     }
     Ok(())
 }
@@ -99,10 +98,10 @@ fn tells_which_file_is_missing(rt: HostRuntime) -> Result<(), Fail> {
         ("P.ENC", "P.ENC: cannot read\n"),
     ] {
         let words = &["run", file];
-        let outside = run(alloc, Setting { words, ..hello })?;
-        outside.check(&rt, file, unrun(7, line));
-        assert_eq!(rt; outside.files.faults(), 1, "at {file}");
-        assert_eq!(rt; outside.out.faults(), 0, "at {file}");
+        let answer = run(alloc, Setting { words, ..hello })?;
+        answer.check(&rt, file, unrun(7, line));
+        assert_eq!(rt; answer.outside.files.faults(), 1, "at {file}");
+        assert_eq!(rt; answer.outside.out.faults(), 0, "at {file}");
     }
     Ok(())
 }
