@@ -30,7 +30,7 @@ pub enum ExprForm {
     Parens(Boxed<Expr>),
     /// A list of these values.
     List(Items<Expr>),
-    /// The reference of this type that refers to nothing.
+    /// The reference or the future of this type that refers to nothing.
     Null(TypeText),
     /// The tree of values of this type that has none.
     Empty(TypeText),

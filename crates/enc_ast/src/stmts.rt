@@ -26,7 +26,7 @@ pub enum StmtForm {
     Send(Receiver, Name, Row<Expr>),
     If(Expr, Items<Stmt>, Option<Items<Stmt>>),
     While(Expr, Items<Stmt>),
-    /// Sends the messages of the block to the owner as one group.
+    /// Sends the messages of the block that go to this owner as one group.
     Atomic(Expr, Items<Stmt>),
     /// Splits the reference of a variable in two, each with its type.
     Split(Name, Name, TypeText, Name, TypeText),

@@ -23,7 +23,7 @@ pub enum TypeForm {
     /// A tree of values, each of which is there now or later.
     Par(Boxed<TypeText>),
     List(Boxed<TypeText>),
-    /// A part of another actor's object.
+    /// An object of some actor, to which messages can be sent.
     Bestowed(Boxed<TypeText>),
     /// A class, or traits in groups.
     Cap(Items<GroupText>),

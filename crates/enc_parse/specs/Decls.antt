@@ -1,4 +1,4 @@
--- Declarations: which of them stand between two places. One case for each alternative.
+-- Declarations: which of them stand between two places. One case for each shape of an alternative.
 -- The number is that of the brackets that are open around.
 use Rattle.std.specs.Prelude.{◌≡◌, ℕ, suc, List, [], ◌∷◌, Option, Some, None}
 use Rattle.enc_lex.specs.declared.kinds.Kind.{Kind}
@@ -54,6 +54,7 @@ pub data IsRoutine (text : List ℕ) (word : Kind) : ℕ → Method → Place �
 abbrev pub IsMembers : List ℕ → List Field → List Method → Stretch
 IsMembers text fs ms a f = (b c d : Place) × IsOpening 0 k.OpenBrace a b × Each (IsField text 1) fs b c × Each (IsRoutine text k.Def 1) ms c d × IsToken k.CloseBrace d f
 
+-- decl = mode "trait" ... | "fun" NAME ... block
 pub data IsDecl (text : List ℕ) : Decl → Place → Place → Type 0 where
   -- mode "trait" NAME "{" { field } { method } "}"
   trait_ : {m : ModeWord} {x : Name} {fs : List Field} {ms : List Method} {a b c d f : Place} → IsMarked plain (by_kind mode) m a b → IsToken k.Trait b c → IsNameAs declared text x c d → IsMembers text fs ms d f → IsDecl text (decl.Trait (record { mode = m; name = x; fields = fs; methods = ms; span = extent a f })) a f

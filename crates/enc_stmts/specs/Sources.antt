@@ -1,4 +1,4 @@
--- What new variables are bound to: which of these sources stand between two places. One case for each alternative.
+-- What new variables are bound to: which of these sources stand between two places. One case for each shape of an alternative.
 -- The number is that of the brackets that are open around.
 use Rattle.std.specs.Prelude.{ℕ, List}
 use Rattle.enc_ast.specs.declared.rules.Span.{Span}
@@ -29,6 +29,7 @@ pub data IsReceiver (text : List ℕ) : Receiver → Place → Place → Type 0 
 abbrev pub source_of : SourceForm → Place → Place → Source
 source_of form a b = record { form = form; span = extent a b }
 
+-- source = expr | ... | "bestow" expr
 pub data IsSource (text : List ℕ) : ℕ → Source → Place → Place → Type 0 where
   -- expr
   value : {n : ℕ} {x : Expr} {a b : Place} → IsWhole text n x a b → IsSource text n (source_of (s.Expr x) a b) a b

@@ -1,4 +1,4 @@
--- Statements: which of them stand between two places. One case for each alternative.
+-- Statements: which of them stand between two places. One case for each shape of an alternative.
 -- The number is that of the brackets that are open around.
 use Rattle.std.specs.Prelude.{◌≡◌, ℕ, suc, List, [], ◌∷◌, Some, None}
 use Rattle.enc_ast.specs.declared.rules.Span.{Span}

@@ -1,4 +1,4 @@
--- Expressions: which of them stand between two places. One case for each alternative.
+-- Expressions: which of them stand between two places. One case for each shape of an alternative.
 -- The number is that of the brackets that are open around.
 use Rattle.std.specs.Prelude.{ℕ, suc, pos, List, [], ◌∷◌}
 use Rattle.enc_ast.specs.declared.rules.Span.{Span}
@@ -54,6 +54,7 @@ mutual
     atom : {n : ℕ} {x : Expr} {a b : Place} → IsAtom text n x a b → IsUnary text n x a b
     before : {n : ℕ} {p : Prefix} {x : Expr} {a b c : Place} → IsOneOf prefix p a b → IsAtom text n x b c → IsUnary text n (expr_of (prefixed p x) a c) a c
 
+  -- atom = INT | ... | ( "at" | "append" ) "(" expr "," expr ")"
   pub data IsAtom (text : List ℕ) : ℕ → Expr → Place → Place → Type 0 where
     -- INT
     int : {n : ℕ} {v : Span} {a b : Place} → IsSpan k.Int v a b → IsAtom text n (expr_of (e.Int (pos (int_of (bytes_at text v)))) a b) a b

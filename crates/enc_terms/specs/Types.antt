@@ -1,5 +1,5 @@
--- Types: which of them stand between two places. One case for each alternative.
--- The number is that of the brackets that are open around.
+-- Types: which of them stand between two places. One case for each shape of an alternative.
+-- The number is that of the brackets that are open around. Around the groups of a class there are none.
 use Rattle.std.specs.Prelude.{◌≡◌, ℕ, suc, Bool, true, false, List, [], ◌∷◌}
 use Rattle.enc_lex.specs.declared.kinds.Kind.TheVariants as k
 use Rattle.enc_ast.specs.declared.decls.Name.{Name}
@@ -22,7 +22,7 @@ group_of names a b = record { names = names; span = extent a b }
 abbrev pub type_of : TypeForm → Place → Place → TypeText
 type_of form a b = record { form = form; span = extent a b }
 
--- the names of a disjunction, whose traits are counted
+-- names with "or" between, which are counted as the traits of one disjunction
 abbrev pub IsDisjunction : List ℕ → List Name → Stretch
 IsDisjunction text = Closed end_traits (Separated k.Or (IsNameAs trait_ text))
 
@@ -39,6 +39,7 @@ IsClassGroups text = Closed end_groups (Separated k.And (IsGroup text true 0))
 abbrev pub IsCap : List ℕ → ℕ → TypeText → Stretch
 IsCap text n x a b = (xs : List GroupText) × (type_of (ty.Cap xs) a b ≡ x) × Separated k.And (IsGroup text false n) xs a b
 
+-- type = "int" | ... | cap
 pub data IsType (text : List ℕ) : ℕ → TypeText → Place → Place → Type 0 where
   -- "int" | "bool" | "text" | "unit"
   simple : {n : ℕ} {form : TypeForm} {a b : Place} → IsMarked plain (by_kind plain_type) form a b → IsType text n (type_of form a b) a b

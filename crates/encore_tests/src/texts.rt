@@ -241,6 +241,29 @@ fn refuses_texts(rt: HostRuntime) -> Result<(), Fail> {
     Ok(())
 }
 
+/// The rule and the column at which the first `end` bytes of the program of one line are refused.
+fn failure_of(end: u32) -> (&'static str, u32) {
+    match end {
+        0 => ("STAGE", 1),
+        1..=5 => ("P-FORM", 1),
+        7..=11 => ("P-FORM", 8),
+        61..=63 => ("P-TOKEN", 61),
+        _ => ("P-FORM", end.saturating_add(1)),
+    }
+}
+
+#[test]
+fn refuses_each_front_part(rt: HostRuntime) -> Result<(), Fail> {
+    let alloc = rt.alloc();
+    for end in 0..69 {
+        let (rule, column) = failure_of(end);
+        let said = format!(in alloc; "p.enc:1:{column}: {rule}\n")?;
+        let (front, _) = HELLO.split_at(end as usize);
+        run(alloc, run_of(front.as_bytes()))?.check(&rt, front, unrun(1, said.as_str()));
+    }
+    Ok(())
+}
+
 #[test]
 fn refuses_bytes_that_are_no_characters(rt: HostRuntime) -> Result<(), Fail> {
     let alloc = rt.alloc();

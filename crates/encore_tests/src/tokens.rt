@@ -27,6 +27,103 @@ fn tokens_have_places(rt: HostRuntime) -> Result<(), Fail> {
     Ok(())
 }
 
+/// The words and the symbols of the language, and the kind of each.
+const WORDS: &[(&str, Kind)] = &[
+    ("active", Kind::Active),
+    ("and", Kind::And),
+    ("append", Kind::Append),
+    ("as", Kind::As),
+    ("at", Kind::At),
+    ("atomic", Kind::Atomic),
+    ("await", Kind::Await),
+    ("bestow", Kind::Bestow),
+    ("Bestowed", Kind::Bestowed),
+    ("bool", Kind::TypeBool),
+    ("both", Kind::Both),
+    ("chain", Kind::Chain),
+    ("choose", Kind::Choose),
+    ("class", Kind::Class),
+    ("def", Kind::Def),
+    ("each", Kind::Each),
+    ("else", Kind::Else),
+    ("empty", Kind::Empty),
+    ("extract", Kind::Extract),
+    ("false", Kind::False),
+    ("fun", Kind::Fun),
+    ("Fut", Kind::Fut),
+    ("future", Kind::Future),
+    ("get", Kind::Get),
+    ("if", Kind::If),
+    ("int", Kind::TypeInt),
+    ("into", Kind::Into),
+    ("isnull", Kind::IsNull),
+    ("join", Kind::Join),
+    ("len", Kind::Len),
+    ("let", Kind::Let),
+    ("lift", Kind::Lift),
+    ("linear", Kind::Linear),
+    ("List", Kind::List),
+    ("local", Kind::Local),
+    ("new", Kind::New),
+    ("nil", Kind::Nil),
+    ("not", Kind::Not),
+    ("null", Kind::Null),
+    ("or", Kind::Or),
+    ("otherwise", Kind::Otherwise),
+    ("pack", Kind::Pack),
+    ("Par", Kind::Par),
+    ("print", Kind::Print),
+    ("prune", Kind::Prune),
+    ("read", Kind::Read),
+    ("return", Kind::Return),
+    ("seq", Kind::Seq),
+    ("split", Kind::Split),
+    ("subordinate", Kind::Subordinate),
+    ("suspend", Kind::Suspend),
+    ("take", Kind::Take),
+    ("text", Kind::TypeText),
+    ("this", Kind::This),
+    ("trait", Kind::Trait),
+    ("true", Kind::True),
+    ("unit", Kind::Unit),
+    ("while", Kind::While),
+    ("with", Kind::With),
+    ("{", Kind::OpenBrace),
+    ("}", Kind::CloseBrace),
+    ("(", Kind::OpenParen),
+    (")", Kind::CloseParen),
+    ("[", Kind::OpenBracket),
+    ("]", Kind::CloseBracket),
+    (":", Kind::Colon),
+    (";", Kind::Semicolon),
+    (",", Kind::Comma),
+    (".", Kind::Dot),
+    ("!", Kind::Bang),
+    ("=", Kind::Assign),
+    ("==", Kind::Equal),
+    ("!=", Kind::NotEqual),
+    ("<", Kind::Less),
+    ("<=", Kind::LessEqual),
+    (">", Kind::Greater),
+    (">=", Kind::GreaterEqual),
+    ("+", Kind::Plus),
+    ("-", Kind::Minus),
+    ("*", Kind::Star),
+    ("/", Kind::Slash),
+    ("%", Kind::Percent),
+];
+
+#[test]
+fn words_and_symbols_are_tokens(rt: HostRuntime) -> Result<(), Fail> {
+    let alloc = rt.alloc();
+    assert_eq!(rt; WORDS.len(), 82);
+    for &(word, kind) in WORDS {
+        let due = token(kind, 0, word.len() as u32);
+        assert_eq!(rt; lex(alloc, word.as_bytes())?.as_slice(), [due].as_slice());
+    }
+    Ok(())
+}
+
 #[test]
 fn tokens_can_be_bad(rt: HostRuntime) {
     let alloc = rt.alloc();
