@@ -1,0 +1,4 @@
+pub mod Passing
+pub mod Listed
+pub mod Telling
+pub mod Loops

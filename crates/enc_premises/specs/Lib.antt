@@ -1,0 +1,3 @@
+pub mod Premises
+pub mod First
+pub mod Passing
