@@ -1,5 +1,5 @@
 -- What the rules ask of the nodes of a tree.
-use Rattle.std.specs.Prelude.{Bool, true, List, [], ◌∷◌, Option, Some, None}
+use Rattle.std.specs.Prelude.{Bool, true, List, [], ◌∷◌, ◌++◌, Option, Some, None}
 use Rattle.enc_ast.specs.declared.rules.Span.{Span}
 use Rattle.enc_ast.specs.declared.rules.Rule.{Rule}
 
@@ -27,6 +27,11 @@ node s (d ∷ c ∷ ds) = premise d.0 s d.1 ⨾ node s (c ∷ ds)
 abbrev pub each : {A : Type 0} → (A → Premises) → List A → Premises
 each f [] = none
 each f (x ∷ xs) = f x ⨾ each f xs
+
+-- what is asked of each of them in turn, with those before it
+abbrev pub each_after : {A : Type 0} → (List A → A → Premises) → List A → List A → Premises
+each_after f before [] = none
+each_after f before (x ∷ xs) = f before x ⨾ each_after f (before ++ x ∷ []) xs
 
 -- whether it holds of what is known; because of what isn't known no rule fails
 abbrev pub if_known : {A : Type 0} → (A → Bool) → Option A → Bool
