@@ -3,4 +3,4 @@
 
 mod names;
 
-pub use names::{cites, Meaning, Named};
+pub use names::{Meaning, Named, cites};

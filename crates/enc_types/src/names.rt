@@ -19,13 +19,15 @@ pub struct Named {
     pub word: Word,
     pub is: Meaning,
 }
+
 ghost use Rattle.std.specs.Prelude.{◌≡◌};
 ghost use Rattle.enc_types.specs.Names as n;
 ghost use Rattle.enc_types.specs.Written as w;
 ghost use Rattle.enc_types.specs.Bodies as b;
+
 pub fn cites()
-  ensures a { n.names_of ≡ n.names_of }
-  ensures b { n.trait_named ≡ n.trait_named }
-  ensures c { w.written ≡ w.written }
-  ensures d { b.body_types ≡ b.body_types }
+    ensures a { n.names_of ≡ n.names_of }
+    ensures b { n.trait_named ≡ n.trait_named }
+    ensures c { w.written ≡ w.written }
+    ensures d { b.body_types ≡ b.body_types }
 {}

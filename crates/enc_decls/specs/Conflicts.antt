@@ -1,0 +1,90 @@
+-- When the traits of a disjunction may share a place.
+use Rattle.std.specs.Prelude.{bytes_eq, ℕ, Bool, true, false, not, ◌&&◌, ◌||◌, cond, List, [], ◌∷◌, ◌++◌, map, filter, flat_map, Option, Some, None, slice_get}
+use Rattle.enc_ast.specs.declared.decls.Decl.{Decl}
+use Rattle.enc_ast.specs.declared.decls.Decl.TheVariants.{Trait, Class, Active, Fun}
+use Rattle.enc_ast.specs.declared.decls.Field.{Field}
+use Rattle.enc_ast.specs.declared.decls.Name.{Name}
+use Rattle.enc_ast.specs.declared.decls.GroupText.{GroupText}
+use Rattle.enc_modes.specs.declared.ty.Alt.{Alt}
+use Rattle.enc_modes.specs.declared.ty.Mode.{Mode}
+use Rattle.enc_modes.specs.declared.ty.Mode.TheVariants as mode
+use Rattle.enc_modes.specs.declared.ty.Ty.{Ty}
+use Rattle.enc_modes.specs.Modes.{is_sendable}
+use Rattle.enc_modes.specs.Equality.{same}
+use Rattle.enc_premises.specs.Premises.{if_known}
+use Rattle.enc_types.specs.Words.{every}
+use Rattle.enc_types.specs.Names.{Names, trait_named}
+use Rattle.enc_types.specs.Written.{type_of}
+
+-- ---- the fields of traits
+
+abbrev fields_by : Option Decl → List Field
+fields_by None = []
+fields_by (Some (Trait d)) = d.fields
+fields_by (Some (Class d)) = []
+fields_by (Some (Active d)) = []
+fields_by (Some (Fun d)) = []
+
+-- the fields of the trait with this number
+abbrev pub trait_fields : List Decl → ℕ → List Field
+trait_fields ds k = fields_by (slice_get ds k)
+
+-- A field by its name, with its type where that is known.
+abbrev pub Entry : Type 0
+Entry = List ℕ × Option Ty
+
+abbrev entry_of : Names → Field → Entry
+entry_of names f = (f.name.word, type_of names f.ty)
+
+-- each name once, as it stands first
+abbrev pub firsts : List Entry → List Entry
+firsts [] = []
+firsts (e ∷ es) = e ∷ filter (λ d. not (bytes_eq d.0 e.0)) (firsts es)
+
+-- the fields of a trait, where the first of a name counts
+abbrev pub entries_of : List Decl → Names → Alt → List Entry
+entries_of ds names a = firsts (map (entry_of names) (trait_fields ds a.number))
+
+-- ---- conflicts
+
+abbrev same_known : Option Ty → Option Ty → Bool
+same_known None u = true
+same_known (Some t) None = true
+same_known (Some t) (Some u) = same t u
+
+-- they have other names, or one type as far as their types are known
+abbrev pub agree : Entry → Entry → Bool
+agree d e = not (bytes_eq d.0 e.0) || same_known d.1 e.1
+
+-- each two of them agree
+abbrev pub consistent : List Entry → Bool
+consistent [] = true
+consistent (e ∷ es) = every (agree e) es && consistent es
+
+abbrev subordinate_mode : Mode → Bool
+subordinate_mode mode.Subordinate = true
+subordinate_mode _ = false
+
+-- it isn't subordinate, and each of its fields may go to another actor
+abbrev pub may_leave : List Decl → Names → Alt → Bool
+may_leave ds names a = not (subordinate_mode a.mode) && every (λ f. if_known is_sendable (type_of names f.ty)) (trait_fields ds a.number)
+
+abbrev add_trait : Option Alt → List Alt → List Alt
+add_trait None alts = alts
+add_trait (Some a) alts = a ∷ alts
+
+-- the traits by these names, as far as there are any
+abbrev pub traits_in : Names → List Name → List Alt
+traits_in names [] = []
+traits_in names (x ∷ xs) = add_trait (trait_named names x.word) (traits_in names xs)
+
+abbrev alts_share : List Decl → Names → List Alt → Bool
+alts_share ds names alts = every (may_leave ds names) alts && consistent (flat_map (entries_of ds names) alts)
+
+abbrev many_share : List Decl → Names → List Name → Bool
+many_share ds names (x ∷ y ∷ xs) = alts_share ds names (traits_in names (x ∷ y ∷ xs))
+many_share ds names _ = true
+
+-- the group is one trait, or its traits may share a place
+unfoldable pub may_share : List Decl → Names → GroupText → Bool
+may_share ds names g = many_share ds names g.names

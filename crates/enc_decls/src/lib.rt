@@ -1,0 +1,6 @@
+//! The rules of declarations.
+#![tactic(auto)]
+
+mod judging;
+
+pub use judging::cites;

@@ -1,0 +1,90 @@
+-- Look-ups in tables.
+use Rattle.std.specs.Prelude.{bytes_eq, ℕ, Bool, true, false, cond, List, [], ◌∷◌, map, filter, filter_map, flat_map, Option, Some, None, option_map, option_and_then, slice_get}
+use Rattle.enc_modes.specs.declared.ty.Alt.{Alt}
+use Rattle.enc_modes.specs.declared.ty.Ty.{Ty, out-Ty}
+use Rattle.enc_modes.specs.declared.ty.Ty.TheOpen.{Ty-F}
+use Rattle.enc_modes.specs.declared.ty.Ty.TheVariants as ty
+use Rattle.enc_modes.specs.Order.{Group}
+use Rattle.enc_modes.specs.Modes.{linear_mode}
+use Rattle.enc_types.specs.declared.names.Meaning.{Meaning}
+use Rattle.enc_types.specs.declared.names.Meaning.TheVariants as is
+use Rattle.enc_types.specs.Words.{place_in}
+use Rattle.enc_types.specs.Names.{Names, found}
+use Rattle.enc_names.specs.declared.members.Slot.{Slot}
+use Rattle.enc_names.specs.declared.members.Signature.{Signature}
+use Rattle.enc_names.specs.declared.members.MethodId.{MethodId}
+use Rattle.enc_names.specs.Members.{Members, Tables}
+
+abbrev fields_at : Option Members → List Slot
+fields_at None = []
+fields_at (Some m) = m.fields
+
+-- the fields of the declaration with this number
+abbrev pub fields_of : Tables → ℕ → List Slot
+fields_of t k = fields_at (slice_get t.members k)
+
+-- the first field of this name
+unfoldable pub field_of : Tables → ℕ → List ℕ → Option ℕ
+field_of t k x = place_in (map (λ s. s.word) (fields_of t k)) x
+
+abbrev methods_at : Option Members → List Signature
+methods_at None = []
+methods_at (Some m) = m.methods
+
+-- the methods of the declaration with this number
+abbrev pub methods_of : Tables → ℕ → List Signature
+methods_of t k = methods_at (slice_get t.members k)
+
+-- the first method of this name in the declaration with this number
+abbrev pub method_in : Tables → List ℕ → ℕ → Option MethodId
+method_in t x k = option_map (λ i. record { owner = k; index = i }) (place_in (map (λ s. s.word) (methods_of t k)) x)
+
+-- the signature of a method or a function
+abbrev pub signature_of : Tables → MethodId → Option Signature
+signature_of t m = slice_get (methods_of t m.owner) m.index
+
+abbrev numbers : Group → List ℕ
+numbers = map (λ a. a.number)
+
+-- the traits of a group whose methods can be asked for: its only one, or the linear ones of a disjunction
+abbrev pub usable_in : Group → List ℕ
+usable_in (a ∷ []) = a.number ∷ []
+usable_in alts = numbers (filter (λ a. linear_mode a.mode) alts)
+
+abbrev owners_layer : Ty-F Ty → List ℕ
+owners_layer (Ty-F.Actor k) = k ∷ []
+owners_layer (Ty-F.Cap gs) = flat_map usable_in gs
+owners_layer (Ty-F.Bestowed a) = a.number ∷ []
+owners_layer _ = []
+
+-- the traits, or the active class, whose methods a receiver of the type can be asked for
+unfoldable pub owners_of : Ty → List ℕ
+owners_of t = owners_layer (out-Ty t)
+
+abbrev only : {A : Type 0} → List A → Option A
+only (x ∷ []) = Some x
+only _ = None
+
+-- the method of this name that a receiver of the type can be asked for, where there is exactly one
+unfoldable pub method_for : Tables → Ty → List ℕ → Option MethodId
+method_for t u x = only (filter_map (method_in t x) (owners_of u))
+
+abbrev class_layer : ℕ × Meaning → Option Ty
+class_layer (k, is.Trait m) = None
+class_layer (k, is.Class c) = option_map ty.Cap c
+class_layer (k, is.Active) = Some (ty.Actor k)
+class_layer (k, is.Fun) = None
+
+-- the type of a new object of the class of this name
+unfoldable pub class_named : Names → List ℕ → Option Ty
+class_named names x = option_and_then class_layer (found names x)
+
+abbrev function_layer : ℕ × Meaning → Option ℕ
+function_layer (k, is.Fun) = Some k
+function_layer (k, is.Trait m) = None
+function_layer (k, is.Class c) = None
+function_layer (k, is.Active) = None
+
+-- the number of the function of this name
+unfoldable pub function_named : Names → List ℕ → Option ℕ
+function_named names x = option_and_then function_layer (found names x)
