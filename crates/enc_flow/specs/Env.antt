@@ -1,13 +1,8 @@
 -- The visible variables, in the order in which they were declared.
-use Rattle.std.specs.Prelude.{bytes_eq, ℕ, suc, Bool, true, false, not, ◌&&◌, ◌||◌, cond, List, [], ◌∷◌, ◌++◌, length, take, Option, Some, None, option_and_then, slice_get, slice_set}
+use Rattle.std.specs.Prelude.{bytes_eq, ℕ, suc, Bool, true, false, not, ◌&&◌, ◌||◌, cond, List, [], ◌∷◌, ◌++◌, length, take, Option, Some, None, slice_get, slice_set}
 use Rattle.enc_modes.specs.declared.ty.Ty.{Ty}
 use Rattle.enc_modes.specs.Modes.{is_linear}
-
--- A variable by its word. It has a type, unless that isn't known.
-pub record Var : Type 0 where
-  pub word : List ℕ
-  pub ty : Option Ty
-  pub moved : Bool
+use Rattle.enc_flow.specs.declared.env.Var.{Var}
 
 abbrev pub Env : Type 0
 Env = List Var

@@ -2,5 +2,7 @@
 #![tactic(auto)]
 
 mod env;
+mod laws;
 
 pub use env::Env;
+pub use laws::{blocks, branches, growth, loops};
