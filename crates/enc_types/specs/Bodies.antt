@@ -1,9 +1,8 @@
 -- The types that are written in a body.
-use Rattle.std.specs.Prelude.{List, [], ◌∷◌, Option, Some, None}
+use Rattle.std.specs.Prelude.{List, Option, Some, None}
 use Rattle.enc_ast.specs.declared.Expr.{Expr}
 use Rattle.enc_ast.specs.declared.ExprForm.TheOpen.{ExprForm-F, Expr-F}
 use Rattle.enc_ast.specs.declared.ExprForm.TheFolds.{fold-Expr}
-use Rattle.enc_ast.specs.declared.sources.Source.{Source}
 use Rattle.enc_ast.specs.declared.sources.SourceForm.{SourceForm}
 use Rattle.enc_ast.specs.declared.sources.SourceForm.TheVariants as s
 use Rattle.enc_ast.specs.declared.Stmt.{Stmt}

@@ -1,5 +1,5 @@
 -- What the names of declarations stand for.
-use Rattle.std.specs.Prelude.{ℕ, List, [], ◌∷◌, map, Option, Some, None, option_map, option_and_then, slice_get}
+use Rattle.std.specs.Prelude.{ℕ, List, map, Option, Some, None, option_map, option_and_then, slice_get}
 use Rattle.enc_ast.specs.declared.decls.Decl.{Decl}
 use Rattle.enc_ast.specs.declared.decls.Decl.TheVariants.{Trait, Class, Active, Fun}
 use Rattle.enc_ast.specs.declared.decls.ModeWord.{ModeWord}

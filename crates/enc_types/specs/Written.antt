@@ -1,5 +1,5 @@
 -- The types that a program writes, and what is asked of them.
-use Rattle.std.specs.Prelude.{ℕ, Bool, true, false, not, ◌&&◌, ◌||◌, cond, List, [], ◌∷◌, map, Option, Some, None, is_some, option_map, option_and_then}
+use Rattle.std.specs.Prelude.{ℕ, Bool, true, false, cond, List, [], ◌∷◌, Option, Some, None, is_some, option_map, option_and_then}
 use Rattle.enc_ast.specs.declared.rules.Span.{Span}
 use Rattle.enc_ast.specs.declared.rules.Rule.TheVariants as rule
 use Rattle.enc_ast.specs.declared.decls.Name.{Name}
@@ -13,7 +13,7 @@ use Rattle.enc_modes.specs.declared.ty.Mode.TheVariants as mode
 use Rattle.enc_modes.specs.declared.ty.Ty.{Ty, out-Ty}
 use Rattle.enc_modes.specs.declared.ty.Ty.TheOpen.{Ty-F}
 use Rattle.enc_modes.specs.declared.ty.Ty.TheVariants as ty
-use Rattle.enc_modes.specs.Order.{Group, Cap, in_order}
+use Rattle.enc_modes.specs.Order.{Cap, in_order}
 use Rattle.enc_modes.specs.Modes.{is_shareable, composes}
 use Rattle.enc_premises.specs.Premises.{Premises, none, ◌⨾◌, node, each, if_known}
 use Rattle.enc_types.specs.declared.names.Meaning.{Meaning}
@@ -94,11 +94,11 @@ composed_layer _ = true
 unfoldable pub is_composed : Ty → Bool
 is_composed t = composed_layer (out-Ty t)
 
-abbrev local_trait : Alt → Mode → Option Alt
+abbrev pub local_trait : Alt → Mode → Option Alt
 local_trait a mode.Local = Some a
 local_trait a _ = None
 
-abbrev local_cap : Cap → Option Alt
+abbrev pub local_cap : Cap → Option Alt
 local_cap ((a ∷ []) ∷ []) = local_trait a a.mode
 local_cap _ = None
 

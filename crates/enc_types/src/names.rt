@@ -1,7 +1,14 @@
 // Names of declarations.
+ghost use Rattle.std.specs.Prelude.{◌≡◌, ◌<◌, length, slice_get, IfOk, IfSome};
+ghost use Rattle.std.specs.Option.{option_copied};
+ghost use Rattle.enc_types.specs.Names as spec;
+ghost use Rattle.enc_types.specs.Written.{type_named};
 
-use enc_ast::Word;
-use enc_modes::{Cap, Mode};
+use crate::Places;
+use enc_ast::{Decl, Row, Word};
+use enc_modes::{Alt, Cap, Mode, Ty};
+use std::alloc::{AllocError, Global};
+use std::marker::Model;
 
 /// What the name of a declaration stands for.
 #[derive(Drop)]
@@ -20,14 +27,65 @@ pub struct Named {
     pub is: Meaning,
 }
 
-ghost use Rattle.std.specs.Prelude.{◌≡◌};
-ghost use Rattle.enc_types.specs.Names as n;
-ghost use Rattle.enc_types.specs.Written as w;
-ghost use Rattle.enc_types.specs.Bodies as b;
+/// What the names of declarations stand for, in the order of the declarations.
+#[derive(Drop)]
+pub struct Names {
+    alloc: Global,
+    places: Places,
+    rows: Row<Named>,
+}
 
-pub fn cites()
-    ensures a { n.names_of ≡ n.names_of }
-    ensures b { n.trait_named ≡ n.trait_named }
-    ensures c { w.written ≡ w.written }
-    ensures d { b.body_types ≡ b.body_types }
-{}
+impl Model for Names {
+    ghost use Rattle.std.specs.Prelude.{◌≡◌, List, map};
+    ghost use Rattle.enc_types.specs.declared.names.Named.{Named};
+
+    ghost Value = { List Named };
+
+    ghost view = { λ names. names.rows };
+
+    ghost invariant = { λ names. names.places ≡ map (λ n. n.word) names.rows };
+}
+
+impl Names {
+    /// What the names of a program's declarations stand for.
+    pub fn of(alloc: Global, decls: &[Decl]) -> Result<Names, AllocError>
+        ensures { IfOk result (λ names. names ≡ spec.names_of decls.now) }
+    {
+        Err(AllocError)
+    }
+
+    #[tactic(auto, unfolding(crate::specs::Names::number_of))]
+    /// The number of the first declaration of this name, or `None` where there is none.
+    pub fn find(&self, name: &str) -> Option<u32>
+        ensures number { result ≡ spec.number_of self.now name.now }
+        ensures within { IfSome result (λ number. number < length self.now) }
+    {
+        self.places.find(name)
+    }
+
+    /// The declaration with this number, or `None` past the end.
+    pub fn get(&self, number: u32) -> Option<&Named>
+        ensures { option_copied result ≡ slice_get self.now number }
+    {
+        self.rows.get(number as usize)
+    }
+
+    #[tactic(auto, unfolding(crate::specs::Names::trait_named, crate::specs::Names::found))]
+    /// The trait of this name, or `None` where the first declaration of the name is no trait.
+    pub fn trait_named(&self, name: &str) -> Option<Alt>
+        ensures { result ≡ spec.trait_named self.now name.now }
+    {
+        let number = self.find(name)?;
+        match self.get(number)?.is {
+            Meaning::Trait(mode) => Some(Alt { number, mode }),
+            _ => None,
+        }
+    }
+
+    /// The type that a name by itself stands for, or `None` where it stands for none.
+    pub fn type_named(&self, name: &str) -> Result<Option<Ty>, AllocError>
+        ensures { IfOk result (λ ty. ty ≡ type_named self.now name.now) }
+    {
+        Err(AllocError)
+    }
+}
