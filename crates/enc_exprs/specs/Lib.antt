@@ -1,0 +1,4 @@
+pub mod Uses
+pub mod Types
+pub mod Exprs
+pub mod Typing
