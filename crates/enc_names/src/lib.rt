@@ -3,4 +3,4 @@
 
 mod members;
 
-pub use members::{MethodId, Signature, Slot, cites};
+pub use members::{MethodId, Signature, Slot};
