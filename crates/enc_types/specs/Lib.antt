@@ -1,4 +1,5 @@
 pub mod Words
+pub mod Kept
 pub mod Names
 pub mod Written
 pub mod Bodies

@@ -1,10 +1,9 @@
 // Words by their places.
 ghost use Rattle.std.specs.Prelude.{◌≡◌, ◌<◌, [], ◌∷◌, ◌++◌, length, OnOk, OnErr, IfSome};
-ghost use Rattle.std.specs.List.{position};
-ghost use Rattle.std.specs.Str.{bytes_eq};
 ghost use Rattle.enc_types.specs.Words as spec;
 
 use enc_ast::{Row, Word};
+use indexmap::IndexMap;
 use std::alloc::{AllocError, Global};
 use std::marker::Model;
 
@@ -12,16 +11,20 @@ use std::marker::Model;
 #[derive(Drop)]
 pub struct Places {
     words: Row<Word>,
+    /// The first place of each word.
+    firsts: IndexMap<String, u32>,
 }
 
 impl Model for Places {
-    ghost use Rattle.std.specs.Prelude.{ℕ, List, length, ◌<◌, ◌-◌, ◌^◌};
+    ghost use Rattle.std.specs.Prelude.{ℕ, List};
 
     ghost Value = { List (List ℕ) };
 
+    ghost use Rattle.enc_types.specs.Kept.{IsKept};
+
     ghost view = { λ places. places.words };
 
-    ghost invariant = { λ places. length places.words < 2 ^ 32 - 1 };
+    ghost invariant = { λ places. IsKept places.words places.firsts };
 }
 
 impl Places {
@@ -31,6 +34,7 @@ impl Places {
     {
         Places {
             words: Row::new(alloc),
+            firsts: IndexMap::new(alloc),
         }
     }
 
@@ -40,23 +44,29 @@ impl Places {
         ensures ok { OnOk result (self.new ≡ self.old ++ word.now ∷ []) }
         ensures err { OnErr result (self.new ≡ self.old) }
     {
-        if self.words.len() >= 4_294_967_294 {
+        let place = self.words.len();
+        if place >= 4_294_967_294 {
             return Err(AllocError);
         }
-        let word = word.copy()?;
-        self.words.push(word)
+        if self.firsts.contains_key(word.as_str()) {
+            self.words.push(word.copy()?)?;
+            return Ok(());
+        }
+        let key = word.copy()?.into_string();
+        self.words.push(word.copy()?)?;
+        if let Ok(_) = self.firsts.insert(key, place as u32) {
+            return Ok(());
+        }
+        self.words.truncate(place);
+        Err(AllocError)
     }
 
-    #[tactic(auto, using(crate::proofs::Finding::places))]
     /// The first place of a word, or `None` where it isn't one of them.
     pub fn find(&self, word: &str) -> Option<u32>
         ensures place { result ≡ spec.place_in self.now word.now }
         ensures within { IfSome result (λ place. place < length self.now) }
     {
-        match first_place(self.words.as_slice(), word) {
-            Some(place) => Some(place as u32),
-            None => None,
-        }
+        self.firsts.get(word).copied()
     }
 
     #[tactic(auto, using(crate::proofs::Finding::places))]
@@ -73,12 +83,4 @@ impl Places {
     {
         self.words.len()
     }
-}
-
-#[tactic(auto, using(crate::proofs::Finding::places))]
-fn first_place(words: &[Word], word: &str) -> Option<usize>
-    ensures place { result ≡ position (λ known. bytes_eq known word.now) words.now }
-    ensures within { IfSome result (λ place. place < length words.now) }
-{
-    words.iter().position(|known| known.is(word))
 }

@@ -1,7 +1,9 @@
-use Rattle.std.proofs.Common.{sym, ◌∙◌, ap}
+use Rattle.std.proofs.Common.{◌≡◌, rules}
 use Rattle.enc_types.specs.Words.{place_in}
-use Rattle.enc_types.proofs.Finding.{place_position}
+use Rattle.enc_types.proofs.Finding.{place_within}
 use Rattle.enc_types.proofs.places.Places.find.Goals as goal
 
-pub returns-in-None-clause-place : goal.returns-in-None-clause-place
-returns-in-None-clause-place c = (c.in-None.ensures.place ∙ sym (place_position c.as_slice.result.now c.args.word.now)) ∙ ap (λ ws. place_in ws c.args.word.now) (c.as_slice.ensures ∙ c.self.view_is)
+pub returns-clause-within : goal.returns-clause-within
+returns-clause-within c =
+    let e : c.copied.result ≡ place_in c.args.self.now c.args.word.now = search rules in
+    rw e (place_within c.args.self.now c.args.word.now)
