@@ -1,2 +1,3 @@
 pub mod Members
 pub mod Lookups
+pub mod Finding

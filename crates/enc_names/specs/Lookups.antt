@@ -9,7 +9,7 @@ use Rattle.enc_modes.specs.Modes.{linear_mode}
 use Rattle.enc_types.specs.declared.names.Meaning.{Meaning}
 use Rattle.enc_types.specs.declared.names.Meaning.TheVariants as is
 use Rattle.enc_types.specs.Words.{place_in}
-use Rattle.enc_types.specs.Names.{Names, found}
+use Rattle.enc_types.specs.Names.{Names, found, trait_named}
 use Rattle.enc_names.specs.declared.members.Slot.{Slot}
 use Rattle.enc_names.specs.declared.members.Signature.{Signature}
 use Rattle.enc_names.specs.declared.members.MethodId.{MethodId}
@@ -43,7 +43,8 @@ method_in t x k = option_map (λ i. record { owner = k; index = i }) (place_in (
 abbrev pub signature_of : Tables → MethodId → Option Signature
 signature_of t m = slice_get (methods_of t m.owner) m.index
 
-abbrev numbers : Group → List ℕ
+-- the numbers of traits
+abbrev pub numbers : Group → List ℕ
 numbers = map (λ a. a.number)
 
 -- the traits of a group whose methods can be asked for: its only one, or the linear ones of a disjunction
@@ -61,7 +62,8 @@ owners_layer _ = []
 unfoldable pub owners_of : Ty → List ℕ
 owners_of t = owners_layer (out-Ty t)
 
-abbrev only : {A : Type 0} → List A → Option A
+-- the one that there is, where there is exactly one
+abbrev pub only : {A : Type 0} → List A → Option A
 only (x ∷ []) = Some x
 only _ = None
 

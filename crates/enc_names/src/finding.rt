@@ -1,0 +1,36 @@
+// Methods that are found one after another.
+ghost use Rattle.std.specs.Prelude.{◌≡◌};
+ghost use Rattle.enc_names.specs.Finding as spec;
+
+use crate::MethodId;
+
+// What was found so far.
+#[derive(Clone, Copy)]
+pub enum Found {
+    Nothing,
+    One(MethodId),
+    Several,
+}
+
+impl Found {
+    // What was found, behind one more place that may have a method.
+    pub fn more(self, method: Option<MethodId>) -> Found
+        ensures { result ≡ spec.more self method }
+    {
+        match (method, self) {
+            (None, _) => self,
+            (Some(method), Found::Nothing) => Found::One(method),
+            _ => Found::Several,
+        }
+    }
+
+    // The one method, where one alone was found.
+    pub fn one(self) -> Option<MethodId>
+        ensures { result ≡ spec.one_of self }
+    {
+        match self {
+            Found::One(method) => Some(method),
+            _ => None,
+        }
+    }
+}
