@@ -1,1 +1,3 @@
 pub mod OnlyOne
+pub mod Passed
+pub mod There

@@ -2,8 +2,13 @@
 #![tactic(auto)]
 
 mod finding;
+mod judged;
+mod laws;
 mod lookups;
 mod members;
+mod stand_in;
 
+pub use judged::tables;
+pub use laws::{field_exists, method_exists, tables_answer};
 pub use lookups::Tables;
 pub use members::{MethodId, Signature, Slot};

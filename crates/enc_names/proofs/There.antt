@@ -1,0 +1,77 @@
+-- What a look-up gives is there.
+use Rattle.std.proofs.Common.{◌≡◌, ℕ, suc, Bool, true, false, cond, List, [], ◌∷◌, map, Option, Some, None, option_map, slice_get, refl, ap, subst, arith}
+use Rattle.std.specs.Prelude.{filter_map}
+use Rattle.std.specs.List.{cons_option, Contains}
+use Rattle.std.specs.Str.{bytes_eq}
+use Rattle.std.proofs.lemmas.Slice.Eq.{bytes_eq-Decides}
+use Rattle.enc_modes.specs.declared.ty.Ty.{Ty}
+use Rattle.enc_types.specs.Words.{place_in}
+use Rattle.enc_names.specs.declared.members.MethodId.{MethodId}
+use Rattle.enc_names.specs.Members.{Tables}
+use Rattle.enc_names.specs.Lookups.{fields_of, field_of, methods_of, method_in, owners_of, only, method_for}
+
+-- What is in this place has this name.
+abbrev Named : {A : Type 0} → (A → List ℕ) → List A → List ℕ → ℕ → Type 0
+Named {A} word xs x i = (y : A) × (slice_get xs i ≡ Some y) × (word y ≡ x)
+
+-- the place of a word has something of that name
+pub place_in-there : {A : Type 0} (word : A → List ℕ) (xs : List A) (x : List ℕ) (i : ℕ) → place_in (map word xs) x ≡ Some i → Named word xs x i
+place_in-there word [] x i h = absurd (grind arith)
+place_in-there word (y ∷ ys) x i h = here (bytes_eq (word y) x) refl h (place_in-there word ys x)
+  where
+    behind : (o : Option ℕ) → place_in (map word ys) x ≡ o → option_map suc o ≡ Some i → ((j : ℕ) → place_in (map word ys) x ≡ Some j → Named word ys x j) → Named word (y ∷ ys) x i
+    behind None e p r = absurd (grind arith)
+    behind (Some j) e p r = let q : suc j ≡ i = grind arith in subst (λ n. Named word (y ∷ ys) x n) q (r j e)
+
+    here : (b : Bool) → bytes_eq (word y) x ≡ b → cond b (Some 0) (option_map suc (place_in (map word ys) x)) ≡ Some i → ((j : ℕ) → place_in (map word ys) x ≡ Some j → Named word ys x j) → Named word (y ∷ ys) x i
+    here true e p r = let q : 0 ≡ i = grind arith in subst (λ n. Named word (y ∷ ys) x n) q (y, refl, (bytes_eq-Decides (word y) x).0 e)
+    here false e p r = behind (place_in (map word ys) x) refl p r
+
+-- the method of this name in the declaration with this number
+method_in-there : (t : Tables) (x : List ℕ) (k : ℕ) (m : MethodId) → method_in t x k ≡ Some m → (k ≡ m.owner) × Named (λ s. s.word) (methods_of t k) x m.index
+method_in-there t x k m h = go (place_in (map (λ s. s.word) (methods_of t k)) x) refl h
+  where
+    go : (o : Option ℕ) → place_in (map (λ s. s.word) (methods_of t k)) x ≡ o → option_map (λ i. record { owner = k; index = i }) o ≡ Some m → (k ≡ m.owner) × Named (λ s. s.word) (methods_of t k) x m.index
+    go None e p = absurd (grind arith)
+    go (Some i) e p = let q : record { owner = k; index = i } ≡ m = grind arith in subst (λ (n : MethodId). (k ≡ n.owner) × Named (λ s. s.word) (methods_of t k) x n.index) q (refl, place_in-there (λ s. s.word) (methods_of t k) x i e)
+
+-- It is given by one of them.
+abbrev Given : (ℕ → Option MethodId) → List ℕ → MethodId → Type 0
+Given f ks m = (k : ℕ) × Contains ks k × (f k ≡ Some m)
+
+given_later : (f : ℕ → Option MethodId) (k : ℕ) (ks : List ℕ) (m : MethodId) → Given f ks m → Given f (k ∷ ks) m
+given_later f k ks m g = (g.0, (suc g.1.0, omega arith, g.1.2), g.2)
+
+-- the first one that is given
+filter_map-there : (f : ℕ → Option MethodId) (ks : List ℕ) (m : MethodId) (ms : List MethodId) → filter_map f ks ≡ m ∷ ms → Given f ks m
+filter_map-there f [] m ms h = absurd (grind arith)
+filter_map-there f (k ∷ ks) m ms h = go (f k) refl h (filter_map-there f ks m ms)
+  where
+    go : (o : Option MethodId) → f k ≡ o → cons_option o (filter_map f ks) ≡ m ∷ ms → (filter_map f ks ≡ m ∷ ms → Given f ks m) → Given f (k ∷ ks) m
+    go None e p r = given_later f k ks m (r p)
+    go (Some n) e p r = let q : n ≡ m = grind arith in (k, (0, omega arith, refl), rw (← q) e)
+
+-- the only one is the first one
+only-first : {A : Type 0} (xs : List A) (x : A) → only xs ≡ Some x → xs ≡ x ∷ []
+only-first [] x h = absurd (grind arith)
+only-first (y ∷ []) x h = let q : y ≡ x = grind arith in ap (λ z. z ∷ []) q
+only-first (y ∷ z ∷ xs) x h = absurd (grind arith)
+
+given : (t : Tables) (u : Ty) (x : List ℕ) (m : MethodId) → method_for t u x ≡ Some m → Given (method_in t x) (owners_of u) m
+unfolding method_for
+given t u x m h = filter_map-there (method_in t x) (owners_of u) m [] (only-first (filter_map (method_in t x) (owners_of u)) m h)
+
+pub field_exists : (t : Tables) (k : ℕ) (x : List ℕ) (i : ℕ) → field_of t k x ≡ Some i → Named (λ s. s.word) (fields_of t k) x i
+unfolding field_of
+field_exists t k x i h = place_in-there (λ s. s.word) (fields_of t k) x i h
+
+pub method_exists : (t : Tables) (u : Ty) (x : List ℕ) (m : MethodId) → method_for t u x ≡ Some m → Named (λ s. s.word) (methods_of t m.owner) x m.index
+method_exists t u x m h =
+    let g = given t u x m h in
+    let p = method_in-there t x g.0 m g.2 in
+    subst (λ n. Named (λ s. s.word) (methods_of t n) x m.index) p.0 p.1
+
+pub owner_exists : (t : Tables) (u : Ty) (x : List ℕ) (m : MethodId) → method_for t u x ≡ Some m → Contains (owners_of u) m.owner
+owner_exists t u x m h =
+    let g = given t u x m h in
+    subst (λ n. Contains (owners_of u) n) (method_in-there t x g.0 m g.2).0 g.1
