@@ -21,5 +21,5 @@ pub enum Use {
 
 pub fn cites()
     ensures a { e.judged ≡ e.judged }
-    ensures b { (names : Names) (env last : Env) (x : Expr) (u : Place) (t : Ty) → t.IsTyped names env x u t last → e.consumes ≡ e.consumes }
+    ensures b { (names : Names) (env last : Env) (x : Expr) (u : Place) (v : Ty) → t.IsTyped names env x u v last → e.consumes ≡ e.consumes }
 {}
