@@ -99,3 +99,8 @@ stmt_types names = fold-Stmt Premises Premises (stmt_form names) stmt_node
 -- the types in a body
 abbrev pub body_types : Names → List Stmt → Premises
 body_types names = each (stmt_types names)
+
+-- the types in a block that may be there
+abbrev pub else_types : Names → Option (List Stmt) → Premises
+else_types names None = none
+else_types names (Some xs) = body_types names xs
