@@ -21,7 +21,7 @@ use Rattle.enc_ast.specs.declared.StmtForm.TheFolds.{fold-StmtForm, fold-roll-St
 use Rattle.enc_premises.specs.Premises.{Premises, none, ◌⨾◌, each}
 use Rattle.enc_types.specs.Names.{Names}
 use Rattle.enc_types.specs.Written.{type_premises}
-use Rattle.enc_types.specs.Bodies.{in_row, expr_form, expr_node, expr_types, exprs_types, source_types, any_block, stmt_form, stmt_node, stmt_types, body_types, else_types}
+use Rattle.enc_types.specs.Bodies.{in_row, expr_form, expr_node, expr_types, exprs_types, source_types, stmt_form, stmt_node, stmt_types, body_types, else_types}
 
 -- what is asked of each, in a row, is what is asked of them in turn
 in_row-map : {A : Type 0} (f : A → Premises) (xs : List A) → in_row (map f xs) ≡ each f xs

@@ -1,2 +1,4 @@
 pub mod Finding
 pub mod BodyFolds
+pub mod TypeFolds
+pub mod Knowing

@@ -23,14 +23,14 @@ use Rattle.enc_types.specs.Names.{Names, found, trait_named}
 
 -- ---- names in groups
 
-abbrev is_trait : Names → List ℕ → Bool
+abbrev pub is_trait : Names → List ℕ → Bool
 is_trait names x = is_some (trait_named names x)
 
 -- each name of the group is one of a trait
 unfoldable pub are_traits : Names → GroupText → Bool
 are_traits names g = every (λ n. is_trait names n.word) g.names
 
-abbrev is_type : Option (ℕ × Meaning) → Bool
+abbrev pub is_type : Option (ℕ × Meaning) → Bool
 is_type None = false
 is_type (Some (k, is.Trait m)) = true
 is_type (Some (k, is.Class c)) = true
@@ -61,7 +61,7 @@ group_premises names many g = node g.span ((rule.KName, names_fit names many g) 
 
 -- ---- the type of names
 
-abbrev alone_layer : ℕ × Meaning → Option Ty
+abbrev pub alone_layer : ℕ × Meaning → Option Ty
 alone_layer (k, is.Trait m) = Some (ty.Cap ((record { number = k; mode = m } ∷ []) ∷ []))
 alone_layer (k, is.Class c) = option_map ty.Cap c
 alone_layer (k, is.Active) = Some (ty.Actor k)

@@ -1,12 +1,12 @@
 // Names of declarations.
-ghost use Rattle.std.specs.Prelude.{◌≡◌, ◌<◌, length, slice_get, IfOk, IfSome};
+ghost use Rattle.std.specs.Prelude.{◌≡◌, ◌<◌, length, map, option_map, slice_get, IfOk, IfSome};
 ghost use Rattle.std.specs.Option.{option_copied};
 ghost use Rattle.enc_types.specs.Names as spec;
-ghost use Rattle.enc_types.specs.Written.{type_named};
+ghost use Rattle.enc_types.specs.Written as written;
 
 use crate::Places;
-use enc_ast::{Decl, Row, Word};
-use enc_modes::{Alt, Cap, Mode, Ty};
+use enc_ast::{Decl, GroupText, ModeWord, Row, Word};
+use enc_modes::{Alt, Cap, Group, Mode, Ty};
 use std::alloc::{AllocError, Global};
 use std::marker::Model;
 
@@ -54,8 +54,13 @@ impl Names {
         Err(AllocError)
     }
 
-    #[tactic(auto, unfolding(crate::specs::Names::number_of))]
+    /// Where the names have their memory.
+    pub fn alloc(&self) -> Global {
+        self.alloc
+    }
+
     /// The number of the first declaration of this name, or `None` where there is none.
+    #[tactic(auto, unfolding(crate::specs::Names::number_of))]
     pub fn find(&self, name: &str) -> Option<u32>
         ensures number { result ≡ spec.number_of self.now name.now }
         ensures within { IfSome result (λ number. number < length self.now) }
@@ -70,8 +75,17 @@ impl Names {
         self.rows.get(number as usize)
     }
 
-    #[tactic(auto, unfolding(crate::specs::Names::trait_named, crate::specs::Names::found))]
+    /// What the first declaration of this name stands for, or `None` where there is none.
+    #[tactic(auto, unfolding(crate::specs::Names::found))]
+    pub fn meaning(&self, name: &str) -> Option<&Meaning>
+        ensures { option_copied result ≡ option_map (λ p. p.1) (spec.found self.now name.now) }
+    {
+        let named = self.get(self.find(name)?)?;
+        Some(&named.is)
+    }
+
     /// The trait of this name, or `None` where the first declaration of the name is no trait.
+    #[tactic(auto, unfolding(crate::specs::Names::trait_named, crate::specs::Names::found))]
     pub fn trait_named(&self, name: &str) -> Option<Alt>
         ensures { result ≡ spec.trait_named self.now name.now }
     {
@@ -82,9 +96,20 @@ impl Names {
         }
     }
 
+    /// Whether the first declaration of this name is of a trait or a class.
+    pub fn is_type(&self, name: &str) -> bool
+        ensures { result ≡ written.is_type (spec.found self.now name.now) }
+    {
+        match self.meaning(name) {
+            None => false,
+            Some(Meaning::Fun) => false,
+            Some(_) => true,
+        }
+    }
+
     /// The type that a name by itself stands for, or `None` where it stands for none.
     pub fn type_named(&self, name: &str) -> Result<Option<Ty>, AllocError>
-        ensures { IfOk result (λ ty. ty ≡ type_named self.now name.now) }
+        ensures { IfOk result (λ ty. ty ≡ written.type_named self.now name.now) }
     {
         Err(AllocError)
     }
