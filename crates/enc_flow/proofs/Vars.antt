@@ -6,6 +6,7 @@ use Rattle.enc_flow.specs.Env.{Env, or_else, number_from, merged, same_moves}
 
 -- ---- the newest one of a name
 
+-- the newest one of a name, with i before it, counted from k on
 found_at : (vs : Env) (i k : ℕ) (v : Var) (x : List ℕ) → i < length vs → v ≡ slice_index_or vs i v → number_from (suc (i + k)) (drop (suc i) vs) x ≡ None → bytes_eq v.word x ≡ true → number_from k vs x ≡ Some (i + k)
 found_at [] i k v x h e n b = absurd (omega arith)
 found_at (w ∷ vs) zero k v x h e n b =
@@ -17,6 +18,7 @@ found_at (w ∷ vs) (suc i) k v x h e n b =
     let r = found_at vs i (suc k) v x (omega arith) e (ap (λ z. number_from z (drop (suc i) vs) x) q ∙ n) b in
     ap (λ z. or_else z (cond (bytes_eq w.word x) (Some k) None)) r ∙ ap Some (omega arith)
 
+-- one more that hasn't the name
 missed_at : (vs : Env) (i k : ℕ) (v : Var) (x : List ℕ) → i < length vs → v ≡ slice_index_or vs i v → number_from (suc k) (drop (suc i) vs) x ≡ None → bytes_eq v.word x ≡ false → number_from k (drop i vs) x ≡ None
 missed_at [] i k v x h e n b = absurd (omega arith)
 missed_at (w ∷ vs) zero k v x h e n b =
@@ -39,6 +41,7 @@ missed vs at v x p h e n b =
 
 -- ---- one more variable that is moved in one of both
 
+-- one more that is moved in one of both
 merged_at : (vs ws : Env) (i : ℕ) (v w : Var) (b : Bool) → i < length vs → i < length ws → v ≡ slice_index_or vs i v → w ≡ slice_index_or ws i w → b ≡ (v.moved || w.moved) →
     take i vs ++ merged (drop i vs) (drop i ws) ≡ take (suc i) (slice_set vs i (record v { moved = b })) ++ merged (drop (suc i) (slice_set vs i (record v { moved = b }))) (drop (suc i) ws)
 merged_at [] ws i v w b h k e f is = absurd (omega arith)
@@ -51,10 +54,12 @@ pub merged_step : (vs ws : Env) (i : ℕ) (v w : Var) (b : Bool) → i < length 
     take (i + 1) (slice_set vs i (record v { moved = b })) ++ merged (drop (i + 1) (slice_set vs i (record v { moved = b }))) (drop (i + 1) ws) ≡ take i vs ++ merged (drop i vs) (drop i ws)
 merged_step vs ws i v w b h k e f is = rw add-one (sym (merged_at vs ws i v w b h k e f is))
 
+-- nothing to take
 take_none : (i : ℕ) → take {A = Var} i [] ≡ []
 take_none zero = refl
 take_none (suc i) = refl
 
+-- nothing to drop
 drop_none : (i : ℕ) → drop {A = Var} i [] ≡ []
 drop_none zero = refl
 drop_none (suc i) = refl
@@ -69,13 +74,14 @@ merged_end (v ∷ vs) (w ∷ ws) (suc i) h = ap (λ z. v ∷ z) (merged_end vs w
 
 -- ---- the same ones are moved
 
--- as many are needed
+-- There must be as many.
 pub same_moves_long : (vs ws : Env) → (length vs ≡ length ws → ⊥) → same_moves vs ws ≡ false
 same_moves_long [] [] h = absurd (h refl)
 same_moves_long [] (w ∷ ws) h = refl
 same_moves_long (v ∷ vs) [] h = refl
 same_moves_long (v ∷ vs) (w ∷ ws) h = grind (arith, same_moves_long vs ws (λ e. h (omega arith)))
 
+-- two bits that differ
 differ_bits : (a b r : Bool) → (a ≡ b → ⊥) → (cond a b (not b) && r) ≡ false
 differ_bits true true r d = absurd (d refl)
 differ_bits true false r d = refl
@@ -89,12 +95,14 @@ same_moves_differ (x ∷ vs) [] i v w h k e f d = absurd (omega arith)
 same_moves_differ (x ∷ vs) (y ∷ ws) zero v w h k e f d = differ_bits x.moved y.moved (same_moves vs ws) (λ q. d (ap (λ z. z.moved) e ∙ (q ∙ ap (λ z. z.moved) (sym f))))
 same_moves_differ (x ∷ vs) (y ∷ ws) (suc i) v w h k e f d = grind (arith, same_moves_differ vs ws i v w (omega arith) (omega arith) e f d)
 
+-- two bits that are the same
 same_bits : (a b r : Bool) → a ≡ b → r ≡ (cond a b (not b) && r)
 same_bits true true r e = refl
 same_bits true false r e = absurd (grind arith)
 same_bits false true r e = absurd (grind arith)
 same_bits false false r e = refl
 
+-- one more that is moved in both or in none
 same_moves_at : (vs ws : Env) (i : ℕ) (v w : Var) → i < length vs → i < length ws → v ≡ slice_index_or vs i v → w ≡ slice_index_or ws i w → v.moved ≡ w.moved → same_moves (drop (suc i) vs) (drop (suc i) ws) ≡ same_moves (drop i vs) (drop i ws)
 same_moves_at [] ws i v w h k e f q = absurd (omega arith)
 same_moves_at (x ∷ vs) [] i v w h k e f q = absurd (omega arith)
@@ -105,10 +113,19 @@ same_moves_at (x ∷ vs) (y ∷ ws) (suc i) v w h k e f q = same_moves_at vs ws 
 pub same_moves_step : (vs ws : Env) (i : ℕ) (v w : Var) → i < length vs → i < length ws → v ≡ slice_index_or vs i v → w ≡ slice_index_or ws i w → v.moved ≡ w.moved → same_moves (drop (i + 1) vs) (drop (i + 1) ws) ≡ same_moves (drop i vs) (drop i ws)
 same_moves_step vs ws i v w h k e f q = rw add-one (same_moves_at vs ws i v w h k e f q)
 
--- all were seen
+-- All were seen.
 pub same_moves_end : (vs ws : Env) (i : ℕ) → length vs ≡ length ws → length vs ≤ i → same_moves (drop i vs) (drop i ws) ≡ true
 same_moves_end [] [] i e h = rw (drop_none i) refl
 same_moves_end [] (w ∷ ws) i e h = absurd (omega arith)
 same_moves_end (v ∷ vs) [] i e h = absurd (omega arith)
 same_moves_end (v ∷ vs) (w ∷ ws) zero e h = absurd (omega arith)
 same_moves_end (v ∷ vs) (w ∷ ws) (suc i) e h = same_moves_end vs ws i (omega arith) (omega arith)
+
+-- what looks for the newest one of a name
+pub ruleset newest = (found, missed)
+
+-- what merges
+pub ruleset merging = (merged_step, merged_end)
+
+-- what compares moves
+pub ruleset comparing = (same_moves_long, same_moves_differ, same_moves_step, same_moves_end)

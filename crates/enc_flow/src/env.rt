@@ -1,5 +1,5 @@
 // The visible variables.
-ghost use Rattle.std.specs.Prelude.{◌≡◌, ◌<◌, ◌↔◌, IsTrue, [], length, take, not, IfOk, IfSome, OnOk, OnErr, true, false, Some, None, slice_get};
+ghost use Rattle.std.specs.Prelude.{◌≡◌, ◌<◌, ◌≤◌, ◌↔◌, IsTrue, [], length, take, not, IfOk, IfSome, OnOk, OnErr, true, false, Some, None, slice_get};
 ghost use Rattle.std.specs.Option.{option_copied, IsSome};
 ghost use Rattle.enc_flow.specs.Env as spec;
 
@@ -50,7 +50,8 @@ impl Env {
 
     /// How many variables are visible.
     pub fn len(&self) -> usize
-        ensures { result ≡ length self.now }
+        ensures value { result ≡ length self.now }
+        ensures few { result ≤ 1024 }
     {
         self.vars.len()
     }
@@ -101,7 +102,7 @@ impl Env {
 
     /// The number of the variable of this name, or `None` where there is none. Of several it is the one
     /// that was declared last.
-    #[tactic(auto, using(crate::proofs::Vars::found, crate::proofs::Vars::missed), unfolding(crate::specs::Env::number_of))]
+    #[tactic(auto, using(crate::proofs::Vars::newest), unfolding(crate::specs::Env::number_of))]
     pub fn find(&self, name: &str) -> Option<u32>
         ensures value { result ≡ spec.number_of self.now name.now }
         ensures within { IfSome result (λ number. number < length self.now) }
@@ -189,7 +190,7 @@ impl Env {
     }
 
     /// Each variable that is moved in the other environment is moved in this one too. It takes no memory.
-    #[tactic(auto, using(crate::proofs::Vars::merged_step, crate::proofs::Vars::merged_end))]
+    #[tactic(auto, using(crate::proofs::Vars::merging))]
     pub fn merge(&mut self, other: &Env)
         ensures { self.new ≡ spec.merged self.old other.now }
     {
@@ -200,7 +201,7 @@ impl Env {
     }
 
     /// Whether both have as many variables and the same of them are moved. It takes no memory.
-    #[tactic(auto, using(crate::proofs::Vars::same_moves_long, crate::proofs::Vars::same_moves_differ, crate::proofs::Vars::same_moves_step, crate::proofs::Vars::same_moves_end))]
+    #[tactic(auto, using(crate::proofs::Vars::comparing))]
     pub fn same_moves(&self, other: &Env) -> bool
         ensures { result ≡ spec.same_moves self.now other.now }
     {
