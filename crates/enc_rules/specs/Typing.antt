@@ -68,22 +68,22 @@ pub data Gives (ctx : Context) (env : Env) : SourceForm → Ty → Env → Type 
   send : {to : Receiver} {m : Name} {xs : List Expr} {last : Env} (t : Ty) (d : Signature) → Invokes (names_of ctx) env to t d.params xs last → (s-send : is_target t ≡ true) → (s-send-2 : sent ctx.tables (Some t) m.word ≡ Some d) → (s-sendable : every (λ p. is_sendable p.ty) d.params ≡ true) → (s-sendable-2 : is_shareable d.result ≡ true) → Gives ctx env (s.Send to m xs) (ty.Fut d.result) last
   get : {x : Expr} {t : Ty} → (s-get : Copied (names_of ctx) env x (ty.Fut t)) → Gives ctx env (s.Get x) t env
   await : {x : Expr} {t : Ty} → (s-await : Copied (names_of ctx) env x (ty.Fut t)) → Gives ctx env (s.Await x) t env
-  chain : {x : Expr} {f : Name} {xs : List Expr} {t u : Ty} {last : Env} → (s-chain : Copied (names_of ctx) env x (ty.Fut t)) → (s-chain-2 : Applies ctx env f t xs u last) → Gives ctx env (s.Chain x f xs) (ty.Fut u) last
+  chain : {x : Expr} {f : Name} {xs : List Expr} {u : Ty} {last : Env} (t : Ty) → (s-chain : Copied (names_of ctx) env x (ty.Fut t)) → (s-chain-2 : Applies ctx env f t xs u last) → Gives ctx env (s.Chain x f xs) (ty.Fut u) last
   lift : {x : Expr} {t : Ty} → Copied (names_of ctx) env x t → (s-part : is_shareable t ≡ true) → Gives ctx env (s.Lift x) (ty.Par t) env
-  lift_future : {x : Expr} {t : Ty} → (s-part : Copied (names_of ctx) env x (ty.Fut t)) → Gives ctx env (s.LiftFuture x) (ty.Par t) env
-  each : {x : Expr} {t : Ty} → (s-part : Copied (names_of ctx) env x (ty.List t)) → Gives ctx env (s.Each x) (ty.Par t) env
-  both : {x y : Expr} {t : Ty} → (s-part : Copied (names_of ctx) env x (ty.Par t)) → (s-part-2 : Copied (names_of ctx) env y (ty.Par t)) → Gives ctx env (s.Both x y) (ty.Par t) env
-  otherwise : {x y : Expr} {t : Ty} → (s-part : Copied (names_of ctx) env x (ty.Par t)) → (s-part-2 : Copied (names_of ctx) env y (ty.Par t)) → Gives ctx env (s.Otherwise x y) (ty.Par t) env
-  seq : {x : Expr} {f : Name} {xs : List Expr} {t u : Ty} {last : Env} → (s-part : Copied (names_of ctx) env x (ty.Par t)) → (s-part-2 : Applies ctx env f t xs u last) → Gives ctx env (s.Seq x f xs) (ty.Par u) last
-  join : {x : Expr} {t : Ty} → (s-part : Copied (names_of ctx) env x (ty.Par (ty.Par t))) → Gives ctx env (s.Join x) (ty.Par t) env
-  prune : {x : Expr} {t : Ty} → (s-part : Copied (names_of ctx) env x (ty.Par t)) → Gives ctx env (s.Prune x) (ty.Par t) env
-  extract : {x : Expr} {t : Ty} → (s-part : Copied (names_of ctx) env x (ty.Par t)) → Gives ctx env (s.Extract x) (ty.List t) env
-  bestow : {x : Expr} {t : Ty} {a : Alt} → Copied (names_of ctx) env x t → (s-bestow : local_of t ≡ Some a) → Gives ctx env (s.Bestow x) (ty.Bestowed a) env
+  lift_future : {x : Expr} (t : Ty) → (s-part : Copied (names_of ctx) env x (ty.Fut t)) → Gives ctx env (s.LiftFuture x) (ty.Par t) env
+  each : {x : Expr} (t : Ty) → (s-part : Copied (names_of ctx) env x (ty.List t)) → Gives ctx env (s.Each x) (ty.Par t) env
+  both : {x y : Expr} (t : Ty) → (s-part : Copied (names_of ctx) env x (ty.Par t)) → (s-part-2 : Copied (names_of ctx) env y (ty.Par t)) → Gives ctx env (s.Both x y) (ty.Par t) env
+  otherwise : {x y : Expr} (t : Ty) → (s-part : Copied (names_of ctx) env x (ty.Par t)) → (s-part-2 : Copied (names_of ctx) env y (ty.Par t)) → Gives ctx env (s.Otherwise x y) (ty.Par t) env
+  seq : {x : Expr} {f : Name} {xs : List Expr} {u : Ty} {last : Env} (t : Ty) → (s-part : Copied (names_of ctx) env x (ty.Par t)) → (s-part-2 : Applies ctx env f t xs u last) → Gives ctx env (s.Seq x f xs) (ty.Par u) last
+  join : {x : Expr} (t : Ty) → (s-part : Copied (names_of ctx) env x (ty.Par (ty.Par t))) → Gives ctx env (s.Join x) (ty.Par t) env
+  prune : {x : Expr} (t : Ty) → (s-part : Copied (names_of ctx) env x (ty.Par t)) → Gives ctx env (s.Prune x) (ty.Par t) env
+  extract : {x : Expr} (t : Ty) → (s-part : Copied (names_of ctx) env x (ty.Par t)) → Gives ctx env (s.Extract x) (ty.List t) env
+  bestow : {x : Expr} {a : Alt} (t : Ty) → Copied (names_of ctx) env x t → (s-bestow : local_of t ≡ Some a) → Gives ctx env (s.Bestow x) (ty.Bestowed a) env
 
 -- values that can be printed
 pub data AllPrint (names : Names) (env : Env) : List Expr → Type 0 where
   end : AllPrint names env []
-  more : {x : Expr} {xs : List Expr} {t : Ty} → Copied names env x t → (s-print : is_plain t ≡ true) → AllPrint names env xs → AllPrint names env (x ∷ xs)
+  more : {x : Expr} {xs : List Expr} (t : Ty) → Copied names env x t → (s-print : is_plain t ≡ true) → AllPrint names env xs → AllPrint names env (x ∷ xs)
 
 abbrev pub Layer : Type 0
 Layer = StmtForm-F StmtForm Stmt
