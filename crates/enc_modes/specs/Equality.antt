@@ -29,7 +29,7 @@ same_cap (g ∷ gs) (h ∷ hs) = same_group g h && same_cap gs hs
 same_cap _ _ = false
 
 -- one type, of which parts are compared already, and another
-abbrev same_layer : Ty-F (Ty → Bool) → Ty-F Ty → Bool
+abbrev pub same_layer : Ty-F (Ty → Bool) → Ty-F Ty → Bool
 same_layer Ty-F.Int Ty-F.Int = true
 same_layer Ty-F.Bool Ty-F.Bool = true
 same_layer Ty-F.Text Ty-F.Text = true

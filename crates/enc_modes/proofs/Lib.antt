@@ -1,0 +1,4 @@
+pub mod Agree
+pub mod Each
+pub mod Same
+pub mod Sorting

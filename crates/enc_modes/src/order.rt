@@ -1,0 +1,51 @@
+// The order of declaration.
+ghost use Rattle.std.specs.Prelude.{◌≡◌, IfOk, map};
+ghost use Rattle.enc_modes.specs.Order as spec;
+
+use std::alloc::AllocError;
+use std::mem;
+
+use enc_ast::Row;
+
+use crate::{Cap, Group};
+
+/// The groups, and the traits inside each, in the order of their declarations. What stands in one place
+/// stays in the order that it has.
+pub fn in_order(cap: Cap) -> Result<Cap, AllocError>
+    ensures { IfOk result (λ sorted. sorted ≡ spec.in_order cap) }
+{
+    let mut groups = each_in_order(cap)?.into_vec();
+    groups.sort_by_key(place_of)?;
+    Ok(Row::from_vec(groups))
+}
+
+// The groups as they stand, each with its traits in order.
+fn each_in_order(cap: Cap) -> Result<Cap, AllocError>
+    ensures { IfOk result (λ sorted. sorted ≡ map (spec.sorted (λ alt. alt.number)) cap) }
+{
+    let mut groups = cap.into_vec();
+    let alloc = *groups.allocator();
+    for group in groups.iter_mut() {
+        let alts = mem::replace(group, Row::new(alloc));
+        *group = group_in_order(alts)?;
+    }
+    Ok(Row::from_vec(groups))
+}
+
+fn group_in_order(group: Group) -> Result<Group, AllocError>
+    ensures { IfOk result (λ sorted. sorted ≡ spec.sorted (λ alt. alt.number) group) }
+{
+    let mut alts = group.into_vec();
+    alts.sort_by_key(|alt| alt.number)?;
+    Ok(Row::from_vec(alts))
+}
+
+// The number by which a group in order has its place.
+fn place_of(group: &Group) -> u32
+    ensures { result ≡ spec.place_of group.now }
+{
+    match group.as_slice() {
+        [first, ..] => first.number,
+        [] => 0,
+    }
+}
