@@ -1,4 +1,7 @@
 pub mod Agree
+pub mod Distinct
 pub mod Each
+pub mod Placing
 pub mod Same
 pub mod Sorting
+pub mod Tells

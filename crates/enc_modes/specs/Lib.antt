@@ -1,3 +1,4 @@
 pub mod Order
 pub mod Modes
 pub mod Equality
+pub mod Placing
