@@ -1,7 +1,6 @@
 -- Two lists compared place by place.
 use Rattle.std.specs.Prelude.{◌≡◌, ℕ, zero, suc, ◌+◌, ◌<◌, ◌≤◌, Bool, true, false, ◌&&◌, List, [], ◌∷◌, length, drop, slice_index_or, ◌≢◌}
-use Rattle.std.proofs.Common.{refl, arith, ap, sym, ◌∙◌, add-one, drop-cons, rules}
-use Rattle.enc_modes.specs.declared.ty.Alt.{Alt}
+use Rattle.std.proofs.Common.{refl, arith, ap, ◌∙◌, add-one}
 use Rattle.enc_modes.specs.Order.{Group, Cap}
 use Rattle.enc_modes.specs.Equality.{same_alt, same_group, same_cap}
 

@@ -1,6 +1,6 @@
 -- Numbers that stand twice, and sets of numbers.
-use Rattle.std.specs.Prelude.{◌≡◌, ◌==◌, ℕ, zero, suc, ◌+◌, ◌<◌, ◌≤◌, Bool, true, false, not, ◌&&◌, ◌||◌, nat_eq, if◌then◌else◌, List, [], ◌∷◌, ◌++◌, length, drop, take, slice_index_or, map, ◌⊎◌}
-use Rattle.std.proofs.Common.{refl, arith, ap, sym, ◌∙◌, inl, inr, add-one, append_assoc}
+use Rattle.std.specs.Prelude.{◌≡◌, ◌==◌, ℕ, zero, suc, ◌+◌, ◌<◌, ◌≤◌, Bool, true, false, not, ◌&&◌, ◌||◌, nat_eq, List, [], ◌∷◌, ◌++◌, length, drop, slice_index_or, map}
+use Rattle.std.proofs.Common.{refl, arith, ap, sym, ◌∙◌, inl, inr, append_assoc}
 use Rattle.std.proofs.lemmas.Bool.{true≢false}
 use Rattle.std.specs.List.{list_any, list_all}
 use Rattle.std.proofs.lemmas.Bool.Decides.{eqb_tells, nat_tests}
@@ -76,9 +76,9 @@ fresh_at keys ns i n h e f = rw (drop_at ns i n h e) at f
 
 pub fresh_more : (keys more ns : List ℕ) (i n : ℕ) → i < length ns → n ≡ slice_index_or ns i n → FreshFrom keys ns i → (new : Bool) → new ≡ not (among keys n) → new ≡ true → more ≡ insert_key nat_eq keys n → FreshFrom more ns (i + 1)
 fresh_more keys more ns i n h e f new told t is =
-  let old : among keys n ≡ false = not_true (among keys n) (sym told ∙ t) in
-  let grown : more ≡ keys ++ n ∷ [] = is ∙ rw old refl in
-  rw grown (rw old at (fresh_at keys ns i n h e f))
+    let old : among keys n ≡ false = not_true (among keys n) (sym told ∙ t) in
+    let grown : more ≡ keys ++ n ∷ [] = is ∙ rw old refl in
+    rw grown (rw old at (fresh_at keys ns i n h e f))
 
 pub fresh_twice : (keys ns : List ℕ) (i n : ℕ) → i < length ns → n ≡ slice_index_or ns i n → FreshFrom keys ns i → (new : Bool) → new ≡ not (among keys n) → new ≡ false → distinct ns ≡ false
 fresh_twice keys ns i n h e f new told t = let old : not (among keys n) ≡ false = sym told ∙ t in rw old at (fresh_at keys ns i n h e f)
@@ -110,7 +110,7 @@ keyed_start keys ns e n = rw e refl
 
 pub keyed_more : (keys more ns : List ℕ) (i m : ℕ) → i < length ns → m ≡ slice_index_or ns i m → KeyedFrom keys ns i → more ≡ insert_key nat_eq keys m → KeyedFrom more ns (i + 1)
 keyed_more keys more ns i m h e k is n =
-  rw (is, among_insert keys m n (among keys m) refl, or_assoc (among keys n) (m == n) (contains (drop (i + 1) ns) n)) (rw (drop_at ns i m h e) at (k n))
+    rw (is, among_insert keys m n (among keys m) refl, or_assoc (among keys n) (m == n) (contains (drop (i + 1) ns) n)) (rw (drop_at ns i m h e) at (k n))
 
 pub keyed_end : (keys ns : List ℕ) (i : ℕ) → length ns ≤ i → KeyedFrom keys ns i → (n : ℕ) → among keys n ≡ contains ns n
 keyed_end keys ns i h k n = sym (or_false (among keys n)) ∙ (rw (drop_all ns i h) at (k n))

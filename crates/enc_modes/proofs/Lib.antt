@@ -5,3 +5,4 @@ pub mod Placing
 pub mod Same
 pub mod Sorting
 pub mod Tells
+pub mod Union

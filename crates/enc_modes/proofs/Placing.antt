@@ -1,5 +1,5 @@
 -- A list is another one sorted where each element stands in its place.
-use Rattle.std.specs.Prelude.{◌≡◌, ◌==◌, ℕ, zero, suc, ◌+◌, ◌-◌, ◌<◌, ◌≤◌, nat_lt, nat_le, nat_eq, Bool, true, false, ◌&&◌, List, [], ◌∷◌, ◌++◌, map, length, Option, Some, None, slice_get, cond, ◌⊎◌}
+use Rattle.std.specs.Prelude.{◌≡◌, ◌==◌, ℕ, zero, suc, ◌+◌, ◌<◌, ◌≤◌, nat_lt, nat_le, Bool, true, false, ◌&&◌, List, [], ◌∷◌, ◌++◌, map, length, Option, Some, None, slice_get, cond, ◌⊎◌}
 use Rattle.std.proofs.Common.{refl, arith, ap, sym, ◌∙◌, inl, inr, append_assoc, append-nil, eq-eqb}
 use Rattle.std.proofs.lemmas.Bool.Decides.{nat_tests, Decides-eqb}
 use Rattle.std.proofs.lemmas.Bool.{false≢true}
@@ -8,7 +8,7 @@ use Rattle.enc_modes.specs.Placing.{below, up_to, place_among, holds, stand}
 use Rattle.enc_modes.proofs.Agree.{agree}
 use Rattle.enc_modes.proofs.Sorting.{lt_tells, Ascends, ascends_sorted}
 
-le_tells : (a b : ℕ) → ((nat_le a b ≡ true) × (a ≤ b)) ⊎ ((nat_le a b ≡ false) × (b < a))
+pub le_tells : (a b : ℕ) → ((nat_le a b ≡ true) × (a ≤ b)) ⊎ ((nat_le a b ≡ false) × (b < a))
 le_tells a b = grind (arith, nat_tests)
 
 -- ---- inserting
@@ -22,24 +22,27 @@ module _ {B : Type 0} (key : B → ℕ) where
   lower_none : (k n : ℕ) (ys : List B) → k ≤ n → Ascends key n ys → lower k ys ≡ 0
   lower_none k n [] h a = refl
   lower_none k n (y ∷ ys) h a =
-    let l : n ≤ key y = a.0 in
-    elim (lt_tells (key y) k) [
-      inl w ↦ absurd (omega arith)
-      | inr w ↦ rw (w.0) (lower_none k (key y) ys (omega arith) a.1) ]
+      let l : n ≤ key y = a.0 in
+      elim (lt_tells (key y) k) [
+        | inl w ↦ absurd (omega arith)
+        | inr w ↦ rw (w.0) (lower_none k (key y) ys (omega arith) a.1)
+      ]
 
   lower_cons : (k : ℕ) (y : B) (xs ys : List B) → lower k xs ≡ lower k ys → lower k (y ∷ xs) ≡ lower k (y ∷ ys)
   lower_cons k y xs ys e = ap (λ z. cond (nat_lt (key y) k) (suc z) z) e
 
   lower_swap : (k : ℕ) (x y : B) (ys : List B) → lower k (y ∷ x ∷ ys) ≡ lower k (x ∷ y ∷ ys)
   lower_swap k x y ys = elim (lt_tells (key x) k) [
-    inl v ↦ elim (lt_tells (key y) k) [ inl w ↦ rw (v.0, w.0) refl | inr w ↦ rw (v.0, w.0) refl ]
-    | inr v ↦ elim (lt_tells (key y) k) [ inl w ↦ rw (v.0, w.0) refl | inr w ↦ rw (v.0, w.0) refl ] ]
+    | inl v ↦ elim (lt_tells (key y) k) [ inl w ↦ rw (v.0, w.0) refl | inr w ↦ rw (v.0, w.0) refl ]
+    | inr v ↦ elim (lt_tells (key y) k) [ inl w ↦ rw (v.0, w.0) refl | inr w ↦ rw (v.0, w.0) refl ]
+  ]
 
   lower_insert : (k : ℕ) (x : B) (ys : List B) → lower k (insert key x ys) ≡ lower k (x ∷ ys)
   lower_insert k x [] = refl
   lower_insert k x (y ∷ ys) = elim (lt_tells (key y) (key x)) [
-    inl w ↦ rw (w.0) (lower_cons k y (insert key x ys) (x ∷ ys) (lower_insert k x ys) ∙ lower_swap k x y ys)
-    | inr w ↦ rw (w.0) refl ]
+    | inl w ↦ rw (w.0) (lower_cons k y (insert key x ys) (x ∷ ys) (lower_insert k x ys) ∙ lower_swap k x y ys)
+    | inr w ↦ rw (w.0) refl
+  ]
 
   lower_sorted : (k : ℕ) (ys : List B) → lower k (sorted key ys) ≡ lower k ys
   lower_sorted k [] = refl
@@ -49,20 +52,23 @@ module _ {B : Type 0} (key : B → ℕ) where
   insert_own : (n : ℕ) (x : B) (ys : List B) → Ascends key n ys → slice_get (insert key x ys) (lower (key x) ys) ≡ Some x
   insert_own n x [] a = refl
   insert_own n x (y ∷ ys) a = elim (lt_tells (key y) (key x)) [
-    inl w ↦ rw (w.0) (insert_own (key y) x ys a.1)
-    | inr w ↦ rw (w.0, lower_none (key x) (key y) ys w.1 a.1) refl ]
+    | inl w ↦ rw (w.0) (insert_own (key y) x ys a.1)
+    | inr w ↦ rw (w.0, lower_none (key x) (key y) ys w.1 a.1) refl
+  ]
 
   -- those whose key is no lower move one place
   insert_moves : (x : B) (ys : List B) (r : ℕ) (e : B) → key x ≤ key e → slice_get ys r ≡ Some e → slice_get (insert key x ys) (suc r) ≡ Some e
   insert_moves x [] r e h g = g
   insert_moves x (y ∷ ys) zero e h g =
-    let is : y ≡ e = cc in
-    elim (lt_tells (key y) (key x)) [
-      inl w ↦ let l : key y < key x = w.1 in absurd (let k : key y ≡ key e = ap key is in omega arith)
-      | inr w ↦ rw (w.0) g ]
+      let is : y ≡ e = cc in
+      elim (lt_tells (key y) (key x)) [
+        | inl w ↦ let l : key y < key x = w.1 in absurd (let k : key y ≡ key e = ap key is in omega arith)
+        | inr w ↦ rw (w.0) g
+      ]
   insert_moves x (y ∷ ys) (suc r) e h g = elim (lt_tells (key y) (key x)) [
-    inl w ↦ rw (w.0) (insert_moves x ys r e h g)
-    | inr w ↦ rw (w.0) g ]
+    | inl w ↦ rw (w.0) (insert_moves x ys r e h g)
+    | inr w ↦ rw (w.0) g
+  ]
 
   key_least : (n : ℕ) (ys : List B) (r : ℕ) (e : B) → Ascends key n ys → slice_get ys r ≡ Some e → n ≤ key e
   key_least n [] r e a g = absurd cc
@@ -73,19 +79,20 @@ module _ {B : Type 0} (key : B → ℕ) where
   insert_leaves : (n : ℕ) (x : B) (ys : List B) (r : ℕ) (e : B) → Ascends key n ys → key e < key x → slice_get ys r ≡ Some e → slice_get (insert key x ys) r ≡ Some e
   insert_leaves n x [] r e a h g = absurd cc
   insert_leaves n x (y ∷ ys) zero e a h g =
-    let is : y ≡ e = cc in
-    let k : key y ≡ key e = ap key is in
-    elim (lt_tells (key y) (key x)) [ inl w ↦ rw (w.0) g | inr w ↦ absurd (let l : key x ≤ key y = w.1 in omega arith) ]
+      let is : y ≡ e = cc in
+      let k : key y ≡ key e = ap key is in
+      elim (lt_tells (key y) (key x)) [ inl w ↦ rw (w.0) g | inr w ↦ absurd (let l : key x ≤ key y = w.1 in omega arith) ]
   insert_leaves n x (y ∷ ys) (suc r) e a h g =
-    let l : key y ≤ key e = key_least (key y) ys r e a.1 g in
-    elim (lt_tells (key y) (key x)) [
-      inl w ↦ rw (w.0) (insert_leaves (key y) x ys r e a.1 h g)
-      | inr w ↦ absurd (let m : key x ≤ key y = w.1 in omega arith) ]
+      let l : key y ≤ key e = key_least (key y) ys r e a.1 g in
+      elim (lt_tells (key y) (key x)) [
+        | inl w ↦ rw (w.0) (insert_leaves (key y) x ys r e a.1 h g)
+        | inr w ↦ absurd (let m : key x ≤ key y = w.1 in omega arith)
+      ]
 
 -- ---- places
 
 module _ {A B : Type 0} (form : A → B) (key : B → ℕ) where
-  below_append : (k : ℕ) (xs ys : List A) → below form key k (xs ++ ys) ≡ below form key k xs + below form key k ys
+  pub below_append : (k : ℕ) (xs ys : List A) → below form key k (xs ++ ys) ≡ below form key k xs + below form key k ys
   below_append k [] ys = omega arith
   below_append k (x ∷ xs) ys = let h = below_append k xs ys in elim (lt_tells (key (form x)) k) [ inl w ↦ rw (w.0) (omega arith) | inr w ↦ rw (w.0) h ]
 
@@ -127,16 +134,17 @@ module _ {A B : Type 0} (form : A → B) (key : B → ℕ) where
   -- in order, each stands in its place
   placed : (front : List A) (x : A) (back : List A) → slice_get (sorted key (map form (front ++ x ∷ back))) (place_among form key front x back) ≡ Some (form x)
   placed [] x back =
-    let s : List B = sorted key (map form back) in
-    let e : lower key (key (form x)) s ≡ below form key (key (form x)) back = lower_sorted key (key (form x)) (map form back) ∙ lower_map (key (form x)) back in
-    at_index (insert key (form x) s) _ (lower key (key (form x)) s) _ (omega arith) (insert_own key 0 (form x) s (ascends_sorted key (map form back)))
+      let s : List B = sorted key (map form back) in
+      let e : lower key (key (form x)) s ≡ below form key (key (form x)) back = lower_sorted key (key (form x)) (map form back) ∙ lower_map (key (form x)) back in
+      at_index (insert key (form x) s) _ (lower key (key (form x)) s) _ (omega arith) (insert_own key 0 (form x) s (ascends_sorted key (map form back)))
   placed (g ∷ front) x back =
-    let s : List B = sorted key (map form (front ++ x ∷ back)) in
-    let r : ℕ = place_among form key front x back in
-    let k : ℕ = key (form x) in
-    elim (le_tells (key (form g)) k) [
-      inl w ↦ let e = up_to_yes k g front w.0 in at_index (insert key (form g) s) _ (suc r) _ (omega arith) (insert_moves key (form g) s r (form x) w.1 (placed front x back))
-      | inr w ↦ let e = up_to_no k g front w.0 in at_index (insert key (form g) s) _ r _ (omega arith) (insert_leaves key 0 (form g) s r (form x) (ascends_sorted key (map form (front ++ x ∷ back))) w.1 (placed front x back)) ]
+      let s : List B = sorted key (map form (front ++ x ∷ back)) in
+      let r : ℕ = place_among form key front x back in
+      let k : ℕ = key (form x) in
+      elim (le_tells (key (form g)) k) [
+        | inl w ↦ let e = up_to_yes k g front w.0 in at_index (insert key (form g) s) _ (suc r) _ (omega arith) (insert_moves key (form g) s r (form x) w.1 (placed front x back))
+        | inr w ↦ let e = up_to_no k g front w.0 in at_index (insert key (form g) s) _ r _ (omega arith) (insert_leaves key 0 (form g) s r (form x) (ascends_sorted key (map form (front ++ x ∷ back))) w.1 (placed front x back))
+      ]
 
   -- one of them whose place is i
   record Hit (xs : List A) (i : ℕ) : Type 0 where
@@ -148,37 +156,47 @@ module _ {A B : Type 0} (form : A → B) (key : B → ℕ) where
 
   hit_low : (x : A) (xs : List A) (i : ℕ) → i < below form key (key (form x)) xs → Hit xs i → Hit (x ∷ xs) i
   hit_low x xs i h q =
-    let k : ℕ = key (form x) in
-    let m : ℕ = key (form q.x) in
-    elim (le_tells k m) [
-      inl w ↦ absurd (
-        let a = ap (below form key k) q.split in
-        let b = below_append k q.front (q.x ∷ q.back) in
-        let c = below_no k q.x q.back w.1 in
-        let d = below_up_to k m q.front w.1 in
-        let e = below_rises k m q.back w.1 in
-        let f = q.at in
-        omega arith)
-      | inr w ↦ record {
-        front = x ∷ q.front; x = q.x; back = q.back; split = ap (λ z. x ∷ z) q.split;
-        at = let a = up_to_no m x q.front w.0 in let f = q.at in omega arith } ]
+      let k : ℕ = key (form x) in
+      let m : ℕ = key (form q.x) in
+      elim (le_tells k m) [
+        | inl w ↦ absurd (
+            let a = ap (below form key k) q.split in
+            let b = below_append k q.front (q.x ∷ q.back) in
+            let c = below_no k q.x q.back w.1 in
+            let d = below_up_to k m q.front w.1 in
+            let e = below_rises k m q.back w.1 in
+            let f = q.at in
+            omega arith)
+        | inr w ↦ record {
+          front = x ∷ q.front;
+          x = q.x;
+          back = q.back;
+          split = ap (λ z. x ∷ z) q.split;
+          at = let a = up_to_no m x q.front w.0 in let f = q.at in omega arith;
+        }
+      ]
 
   hit_high : (x : A) (xs : List A) (i : ℕ) → below form key (key (form x)) xs ≤ i → Hit xs i → Hit (x ∷ xs) (suc i)
   hit_high x xs i h q =
-    let k : ℕ = key (form x) in
-    let m : ℕ = key (form q.x) in
-    elim (le_tells k m) [
-      inl w ↦ record {
-        front = x ∷ q.front; x = q.x; back = q.back; split = ap (λ z. x ∷ z) q.split;
-        at = let a = up_to_yes m x q.front w.0 in let f = q.at in omega arith }
-      | inr w ↦ absurd (
-        let a = ap (below form key k) q.split in
-        let b = below_append k q.front (q.x ∷ q.back) in
-        let c = below_yes k q.x q.back w.1 in
-        let d = up_to_below m k q.front w.1 in
-        let e = below_rises m k q.back (omega arith) in
-        let f = q.at in
-        omega arith) ]
+      let k : ℕ = key (form x) in
+      let m : ℕ = key (form q.x) in
+      elim (le_tells k m) [
+        | inl w ↦ record {
+          front = x ∷ q.front;
+          x = q.x;
+          back = q.back;
+          split = ap (λ z. x ∷ z) q.split;
+          at = let a = up_to_yes m x q.front w.0 in let f = q.at in omega arith;
+        }
+        | inr w ↦ absurd (
+            let a = ap (below form key k) q.split in
+            let b = below_append k q.front (q.x ∷ q.back) in
+            let c = below_yes k q.x q.back w.1 in
+            let d = up_to_below m k q.front w.1 in
+            let e = below_rises m k q.back (omega arith) in
+            let f = q.at in
+            omega arith)
+      ]
 
   hit_own : (x : A) (xs : List A) (i : ℕ) → below form key (key (form x)) xs ≡ i → Hit (x ∷ xs) i
   hit_own x xs i e = record { front = []; x = x; back = xs; split = refl; at = omega arith }
@@ -187,17 +205,20 @@ module _ {A B : Type 0} (form : A → B) (key : B → ℕ) where
   hit : (xs : List A) (i : ℕ) → i < length xs → Hit xs i
   hit [] i h = absurd (omega arith)
   hit (x ∷ xs) zero h =
-    let b = below_within (key (form x)) xs in
-    elim (lt_tells 0 (below form key (key (form x)) xs)) [
-      inl w ↦ hit_low x xs 0 w.1 (hit xs 0 (omega arith))
-      | inr w ↦ hit_own x xs 0 (omega arith) ]
+      let b = below_within (key (form x)) xs in
+      elim (lt_tells 0 (below form key (key (form x)) xs)) [
+        | inl w ↦ hit_low x xs 0 w.1 (hit xs 0 (omega arith))
+        | inr w ↦ hit_own x xs 0 (omega arith)
+      ]
   hit (x ∷ xs) (suc j) h =
-    let b = below_within (key (form x)) xs in
-    elim (lt_tells (suc j) (below form key (key (form x)) xs)) [
-      inl w ↦ hit_low x xs (suc j) w.1 (hit xs (suc j) (omega arith))
-      | inr w ↦ elim (lt_tells j (below form key (key (form x)) xs)) [
-        inl v ↦ hit_own x xs (suc j) (omega arith)
-        | inr v ↦ hit_high x xs j v.1 (hit xs j (omega arith)) ] ]
+      let b = below_within (key (form x)) xs in
+      elim (lt_tells (suc j) (below form key (key (form x)) xs)) [
+        | inl w ↦ hit_low x xs (suc j) w.1 (hit xs (suc j) (omega arith))
+        | inr w ↦ elim (lt_tells j (below form key (key (form x)) xs)) [
+          | inl v ↦ hit_own x xs (suc j) (omega arith)
+          | inr v ↦ hit_high x xs j v.1 (hit xs j (omega arith))
+        ]
+      ]
 
 -- ---- a list in order
 
@@ -222,10 +243,10 @@ same_places [] [] l h = refl
 same_places [] (y ∷ ys) l h = absurd (omega arith)
 same_places (x ∷ xs) [] l h = absurd (omega arith)
 same_places (x ∷ xs) (y ∷ ys) l h =
-  let e = h 0 (omega arith) in
-  let is : x ≡ y = cc in
-  let r : xs ≡ ys = same_places xs ys (omega arith) (λ i b. h (suc i) (omega arith)) in
-  cc
+    let e = h 0 (omega arith) in
+    let is : x ≡ y = cc in
+    let r : xs ≡ ys = same_places xs ys (omega arith) (λ i b. h (suc i) (omega arith)) in
+    cc
 
 length_insert : {B : Type 0} (key : B → ℕ) (x : B) (ys : List B) → length (insert key x ys) ≡ suc (length ys)
 length_insert key x [] = refl
@@ -248,9 +269,9 @@ module _ {A B : Type 0} (form : A → B) (key : B → ℕ) (same : B → B → B
   pub agree_equal : (xs ys : List B) → agree same xs ys ≡ true → xs ≡ ys
   agree_equal [] [] h = refl
   agree_equal (x ∷ xs) (y ∷ ys) h =
-    let e : x ≡ y = tells.equal x y (and_left (same x y) (agree same xs ys) h) in
-    let f : xs ≡ ys = agree_equal xs ys (and_right (same x y) (agree same xs ys) h) in
-    cc
+      let e : x ≡ y = tells.equal x y (and_left (same x y) (agree same xs ys) h) in
+      let f : xs ≡ ys = agree_equal xs ys (and_right (same x y) (agree same xs ys) h) in
+      cc
   agree_equal [] (y ∷ ys) h = absurd (false≢true h)
   agree_equal (x ∷ xs) [] h = absurd (false≢true h)
 
@@ -266,8 +287,8 @@ module _ {A B : Type 0} (form : A → B) (key : B → ℕ) (same : B → B → B
   order_stands : (s : List B) (front part after : List A) → s ≡ sorted key (map form (front ++ (part ++ after))) → stand form key same s front part after ≡ true
   order_stands s front [] after e = refl
   order_stands s front (x ∷ part) after e =
-    let g : slice_get s (place_among form key front x (part ++ after)) ≡ Some (form x) = rw e (placed form key front x (part ++ after)) in
-    and_true (holds same (slice_get s (place_among form key front x (part ++ after))) (form x)) (stand form key same s (front ++ x ∷ []) part after)
+      let g : slice_get s (place_among form key front x (part ++ after)) ≡ Some (form x) = rw e (placed form key front x (part ++ after)) in
+      and_true (holds same (slice_get s (place_among form key front x (part ++ after))) (form x)) (stand form key same s (front ++ x ∷ []) part after)
       (rw g (tells.itself (form x)))
       (order_stands s (front ++ x ∷ []) part after (e ∙ ap (λ z. sorted key (map form z)) (sym (append_assoc front (x ∷ []) (part ++ after)))))
 
@@ -276,21 +297,21 @@ module _ {A B : Type 0} (form : A → B) (key : B → ℕ) (same : B → B → B
   stands_placed s front [] [] x b h e = absurd cc
   stands_placed s front [] (y ∷ f) x b h e = absurd cc
   stands_placed s front (y ∷ part) [] x b h e =
-    let i : y ≡ x = cc in
-    let j : part ≡ b = cc in
-    let g = holds_some _ _ (and_left (holds same (slice_get s (place_among form key front y (part ++ []))) (form y)) (stand form key same s (front ++ y ∷ []) part []) h) in
-    rw (append-nil, ← i, ← j) (rw append-nil at g)
+      let i : y ≡ x = cc in
+      let j : part ≡ b = cc in
+      let g = holds_some _ _ (and_left (holds same (slice_get s (place_among form key front y (part ++ []))) (form y)) (stand form key same s (front ++ y ∷ []) part []) h) in
+      rw (append-nil, ← i, ← j) (rw append-nil at g)
   stands_placed s front (y ∷ part) (z ∷ f) x b h e =
-    let i : y ≡ z = cc in
-    let j : part ≡ f ++ x ∷ b = cc in
-    let g = stands_placed s (front ++ y ∷ []) part f x b (and_right (holds same (slice_get s (place_among form key front y (part ++ []))) (form y)) (stand form key same s (front ++ y ∷ []) part []) h) j in
-    rw (← i) (rw append_assoc at g)
+      let i : y ≡ z = cc in
+      let j : part ≡ f ++ x ∷ b = cc in
+      let g = stands_placed s (front ++ y ∷ []) part f x b (and_right (holds same (slice_get s (place_among form key front y (part ++ []))) (form y)) (stand form key same s (front ++ y ∷ []) part []) h) j in
+      rw (← i) (rw append_assoc at g)
 
   -- A list of the same length in which all stand is the list in order.
   stands_sorted : (s : List B) (xs : List A) → length s ≡ length xs → stand form key same s [] xs [] ≡ true → s ≡ sorted key (map form xs)
   stands_sorted s xs l h =
-    let n : length (sorted key (map form xs)) ≡ length xs = length_sorted key (map form xs) ∙ length_formed form xs in
-    same_places s (sorted key (map form xs)) (l ∙ sym n) (λ i b.
+      let n : length (sorted key (map form xs)) ≡ length xs = length_sorted key (map form xs) ∙ length_formed form xs in
+      same_places s (sorted key (map form xs)) (l ∙ sym n) (λ i b.
       let q : Hit form key xs i = hit form key xs i (omega arith) in
       let u = at_index form key s i (place_among form key q.front q.x q.back) _ (sym q.at) (stands_placed s [] xs q.front q.x q.back h q.split) in
       let v = ap (λ z. slice_get (sorted key (map form z)) i) q.split ∙ at_index form key (sorted key (map form (q.front ++ q.x ∷ q.back))) i (place_among form key q.front q.x q.back) _ (sym q.at) (placed form key q.front q.x q.back) in
@@ -299,12 +320,12 @@ module _ {A B : Type 0} (form : A → B) (key : B → ℕ) (same : B → B → B
   -- So a list agrees with another one in order exactly where both are as long and all stand.
   pub agree_sorted : (s : List B) (xs : List A) → agree same s (sorted key (map form xs)) ≡ ((length s == length xs) && stand form key same s [] xs [])
   agree_sorted s xs = both_ways (agree same s (sorted key (map form xs))) ((length s == length xs) && stand form key same s [] xs [])
-    (λ h.
+      (λ h.
       let e : s ≡ sorted key (map form xs) = agree_equal s (sorted key (map form xs)) h in
       let l : length s ≡ length xs = ap length e ∙ length_sorted key (map form xs) ∙ length_formed form xs in
       and_true (length s == length xs) (stand form key same s [] xs []) (eq-eqb (length s) (length xs) l)
-        (order_stands s [] xs [] (e ∙ ap (λ z. sorted key (map form z)) (sym (append-nil xs)))))
-    (λ h.
+      (order_stands s [] xs [] (e ∙ ap (λ z. sorted key (map form z)) (sym (append-nil xs)))))
+      (λ h.
       let l : length s ≡ length xs = (Decides-eqb (length s) (length xs)).0 (and_left (length s == length xs) (stand form key same s [] xs []) h) in
       let e : s ≡ sorted key (map form xs) = stands_sorted s xs l (and_right (length s == length xs) (stand form key same s [] xs []) h) in
       rw (← e) (agree_itself s))
@@ -317,7 +338,7 @@ and_assoc false b c = refl
 pub stand_both : {A B : Type 0} (form : A → B) (key : B → ℕ) (same : B → B → Bool) (s : List B) (front left right after : List A) → stand form key same s front (left ++ right) after ≡ (stand form key same s front left (right ++ after) && stand form key same s (front ++ left) right after)
 stand_both form key same s front [] right after = rw append-nil refl
 stand_both form key same s front (x ∷ left) right after =
-  let i = rw (append_assoc front (x ∷ []) left) at (stand_both form key same s (front ++ x ∷ []) left right after) in
-  rw (append_assoc left right after) (
+    let i = rw (append_assoc front (x ∷ []) left) at (stand_both form key same s (front ++ x ∷ []) left right after) in
+    rw (append_assoc left right after) (
     ap (λ z. holds same (slice_get s (place_among form key front x (left ++ (right ++ after)))) (form x) && z) i
     ∙ and_assoc (holds same (slice_get s (place_among form key front x (left ++ (right ++ after)))) (form x)) (stand form key same s (front ++ x ∷ []) left (right ++ after)) (stand form key same s (front ++ x ∷ left) right after))

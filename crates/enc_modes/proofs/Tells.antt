@@ -1,14 +1,13 @@
 -- The tests of sameness tell equal things.
-use Rattle.std.specs.Prelude.{◌≡◌, ◌==◌, ℕ, Bool, true, false, ◌&&◌, List, [], ◌∷◌}
+use Rattle.std.specs.Prelude.{◌≡◌, ◌==◌, true}
 use Rattle.std.proofs.Common.{refl, ap, sym, ◌∙◌, eq-eqb}
 use Rattle.std.proofs.lemmas.Bool.Decides.{Decides-eqb}
 use Rattle.std.proofs.lemmas.Bool.{false≢true}
 use Rattle.enc_modes.specs.declared.ty.Alt.{Alt}
 use Rattle.enc_modes.specs.declared.ty.Mode.{Mode}
 use Rattle.enc_modes.specs.declared.ty.Mode.TheVariants as mode
-use Rattle.enc_modes.specs.Order.{Group, Cap}
 use Rattle.enc_modes.specs.Equality.{same_mode, same_alt, same_group, same_cap}
-use Rattle.enc_modes.proofs.Agree.{agree, group_agrees, cap_agrees}
+use Rattle.enc_modes.proofs.Agree.{group_agrees, cap_agrees}
 use Rattle.enc_modes.proofs.Placing.{Tells, agree_equal, agree_itself, and_left, and_right, and_true}
 
 mode_equal : (m n : Mode) → same_mode m n ≡ true → m ≡ n
@@ -24,23 +23,29 @@ mode_itself mode.Local = refl
 mode_itself mode.Read = refl
 mode_itself mode.Subordinate = refl
 
+alt_made : (a b : Alt) → a.number ≡ b.number → a.mode ≡ b.mode → a ≡ b
+alt_made a b n m = ap (λ z. record a { number = z }) n ∙ ap (λ z. record { number = b.number; mode = z }) m
+
 alt_equal : (a b : Alt) → same_alt a b ≡ true → a ≡ b
 alt_equal a b h =
-  let n : a.number ≡ b.number = (Decides-eqb a.number b.number).0 (and_left (a.number == b.number) (same_mode a.mode b.mode) h) in
-  let m : a.mode ≡ b.mode = mode_equal a.mode b.mode (and_right (a.number == b.number) (same_mode a.mode b.mode) h) in
-  cc
+    let n : a.number ≡ b.number = (Decides-eqb a.number b.number).0 (and_left (a.number == b.number) (same_mode a.mode b.mode) h) in
+    let m : a.mode ≡ b.mode = mode_equal a.mode b.mode (and_right (a.number == b.number) (same_mode a.mode b.mode) h) in
+    alt_made a b n m
 
 pub alt_tells : Tells same_alt
 alt_tells = record {
   equal = alt_equal;
-  itself = λ a. and_true (a.number == a.number) (same_mode a.mode a.mode) (eq-eqb a.number a.number refl) (mode_itself a.mode) }
+  itself = λ a. and_true (a.number == a.number) (same_mode a.mode a.mode) (eq-eqb a.number a.number refl) (mode_itself a.mode);
+}
 
 pub group_tells : Tells same_group
 group_tells = record {
   equal = λ g h e. agree_equal (λ x. x) (λ a. a.number) same_alt alt_tells g h (sym (group_agrees g h) ∙ e);
-  itself = λ g. group_agrees g g ∙ agree_itself (λ x. x) (λ a. a.number) same_alt alt_tells g }
+  itself = λ g. group_agrees g g ∙ agree_itself (λ x. x) (λ a. a.number) same_alt alt_tells g;
+}
 
 pub cap_tells : Tells same_cap
 cap_tells = record {
   equal = λ g h e. agree_equal (λ x. x) (λ _. 0) same_group group_tells g h (sym (cap_agrees g h) ∙ e);
-  itself = λ g. cap_agrees g g ∙ agree_itself (λ x. x) (λ _. 0) same_group group_tells g }
+  itself = λ g. cap_agrees g g ∙ agree_itself (λ x. x) (λ _. 0) same_group group_tells g;
+}

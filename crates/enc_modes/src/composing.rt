@@ -4,13 +4,11 @@ ghost use Rattle.std.specs.List.{list_any};
 ghost use Rattle.indexmap.specs.IndexSet.{contains_by};
 ghost use Rattle.enc_modes.specs.Modes as spec;
 
-use std::alloc::{AllocError, Global};
-
-use indexmap::IndexSet;
-
 use crate::equality::copy_cap;
 use crate::order::in_order;
 use crate::{Alt, Cap, Group, Mode, mode_of};
+use indexmap::IndexSet;
+use std::alloc::{AllocError, Global};
 
 /// Whether the groups go together: no trait stands in them twice, and of several groups each is a linear
 /// trait or a disjunction.

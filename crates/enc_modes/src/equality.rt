@@ -2,12 +2,10 @@
 ghost use Rattle.std.specs.Prelude.{◌≡◌, IfOk};
 ghost use Rattle.enc_modes.specs.Equality as spec;
 
-use std::alloc::{AllocError, Global};
-
+use crate::{Alt, Cap, Group, Ty};
 use enc_ast::Row;
 use sqlite_items::Boxed;
-
-use crate::{Alt, Cap, Group, Ty};
+use std::alloc::{AllocError, Global};
 
 impl Ty {
     /// Whether both are the same type, down to the order of groups and traits.

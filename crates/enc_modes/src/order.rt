@@ -2,12 +2,10 @@
 ghost use Rattle.std.specs.Prelude.{◌≡◌, IfOk, map};
 ghost use Rattle.enc_modes.specs.Order as spec;
 
+use crate::{Cap, Group};
+use enc_ast::Row;
 use std::alloc::AllocError;
 use std::mem;
-
-use enc_ast::Row;
-
-use crate::{Cap, Group};
 
 /// The groups, and the traits inside each, in the order of their declarations. What stands in one place
 /// stays in the order that it has.

@@ -1,5 +1,5 @@
 // A capability type parted in two.
-ghost use Rattle.std.specs.Prelude.{◌≡◌, ◌==◌, ◌+◌, ◌<◌, ◌^◌, ◌&&◌, [], length, slice_get, map};
+ghost use Rattle.std.specs.Prelude.{◌≡◌, ◌==◌, ◌+◌, ◌<◌, ◌≤◌, ◌^◌, ◌&&◌, [], length, slice_get, map};
 ghost use Rattle.enc_modes.specs.Equality.{same_alt as alike, same_group as group_alike, same_cap as cap_alike};
 ghost use Rattle.enc_modes.specs.Modes as spec;
 ghost use Rattle.enc_modes.specs.Order.{sorted, place_of};
@@ -20,16 +20,19 @@ pub fn split_of(whole: &Cap, left: &Cap, right: &Cap) -> bool
 }
 
 // Whether the whole is the groups of both in order.
+#[tactic(auto, using(crate::proofs::Union::unions))]
 fn is_union(whole: &[Group], left: &[Group], right: &[Group]) -> bool
     ensures { result ≡ cap_alike whole.now (spec.union left.now right.now) }
 {
-    whole.len().checked_sub(left.len()) == Some(right.len())
-        && groups_stand(whole, &[], left, right)
-        && groups_stand(whole, left, right, &[])
+    if left.len() > whole.len() || whole.len() - left.len() != right.len() {
+        return false;
+    }
+    groups_stand(whole, &[], left, right) && groups_stand(whole, left, right, &[])
 }
 
 // Whether each group of the part, in order, stands in the whole in its place among those before the
 // part, in it and after it.
+#[tactic(auto, using(crate::proofs::Union::standing))]
 fn groups_stand(whole: &[Group], before: &[Group], part: &[Group], after: &[Group]) -> bool
     requires { length before.now + length part.now + length after.now < 2 ^ 64 }
     ensures { result ≡ stand (sorted (λ alt. alt.number)) place_of group_alike whole.now before.now part.now after.now }
@@ -57,16 +60,24 @@ fn has_group(whole: &[Group], at: usize, group: &Group) -> bool
 
 // How many of the groups come before the place.
 fn below_place(groups: &[Group], place: u32) -> usize
-    ensures { result ≡ below (sorted (λ alt. alt.number)) place_of place groups.now }
+    ensures value { result ≡ below (sorted (λ alt. alt.number)) place_of place groups.now }
+    ensures within { result ≤ length groups.now }
 {
-    groups.iter().filter(|group| least(group.as_slice()) < place).count()
+    groups
+        .iter()
+        .filter(|group| least(group.as_slice()) < place)
+        .count()
 }
 
 // How many of the groups come no later than the place.
 fn up_to_place(groups: &[Group], place: u32) -> usize
-    ensures { result ≡ up_to (sorted (λ alt. alt.number)) place_of place groups.now }
+    ensures value { result ≡ up_to (sorted (λ alt. alt.number)) place_of place groups.now }
+    ensures within { result ≤ length groups.now }
 {
-    groups.iter().filter(|group| least(group.as_slice()) <= place).count()
+    groups
+        .iter()
+        .filter(|group| least(group.as_slice()) <= place)
+        .count()
 }
 
 // The place of a group once it is in order.
@@ -77,6 +88,7 @@ fn least(group: &[Alt]) -> u32
 }
 
 // Whether the first is the traits of the second in order.
+#[tactic(auto, using(crate::proofs::Union::groups))]
 fn is_sorted_from(placed: &[Alt], group: &[Alt]) -> bool
     ensures { result ≡ group_alike placed.now (sorted (λ alt. alt.number) group.now) }
 {
@@ -84,6 +96,7 @@ fn is_sorted_from(placed: &[Alt], group: &[Alt]) -> bool
 }
 
 // Whether each trait of the group stands in its place.
+#[tactic(auto, using(crate::proofs::Union::standing))]
 fn alts_stand(placed: &[Alt], group: &[Alt]) -> bool
     ensures { result ≡ stand (λ alt. alt) (λ alt. alt.number) alike placed.now [] group.now [] }
 {
@@ -107,13 +120,15 @@ fn has_alt(placed: &[Alt], at: usize, alt: &Alt) -> bool
 }
 
 fn below_number(alts: &[Alt], number: u32) -> usize
-    ensures { result ≡ below (λ alt. alt) (λ alt. alt.number) number alts.now }
+    ensures value { result ≡ below (λ alt. alt) (λ alt. alt.number) number alts.now }
+    ensures within { result ≤ length alts.now }
 {
     alts.iter().filter(|alt| alt.number < number).count()
 }
 
 fn up_to_number(alts: &[Alt], number: u32) -> usize
-    ensures { result ≡ up_to (λ alt. alt) (λ alt. alt.number) number alts.now }
+    ensures value { result ≡ up_to (λ alt. alt) (λ alt. alt.number) number alts.now }
+    ensures within { result ≤ length alts.now }
 {
     alts.iter().filter(|alt| alt.number <= number).count()
 }

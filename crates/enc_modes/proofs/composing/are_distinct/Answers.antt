@@ -1,4 +1,4 @@
-use Rattle.std.proofs.Common.{◌∙◌, sym, arith}
+use Rattle.std.proofs.Common.{sym, arith}
 use Rattle.enc_modes.proofs.Distinct.{fresh_more, fresh_twice, read_at}
 use Rattle.enc_modes.proofs.composing.are_distinct.Goals as goal
 

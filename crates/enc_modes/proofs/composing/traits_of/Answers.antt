@@ -1,4 +1,4 @@
-use Rattle.std.proofs.Common.{rules, arith, ◌∙◌, ◌++◌, map, ap, sym}
+use Rattle.std.proofs.Common.{arith, ◌∙◌, ◌++◌, map, ap}
 use Rattle.enc_modes.proofs.Distinct.{traits_more}
 use Rattle.enc_modes.proofs.composing.traits_of.Goals as goal
 

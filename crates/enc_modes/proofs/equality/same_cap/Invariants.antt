@@ -1,4 +1,4 @@
-use Rattle.enc_modes.specs.Equality.{same_alt, same_group}
+use Rattle.enc_modes.specs.Equality.{same_group}
 use Rattle.enc_modes.proofs.Agree.{AgreesTo}
 use Rattle.enc_modes.proofs.equality.same_cap.Given as goal
 

@@ -1,8 +1,7 @@
-use Rattle.std.proofs.Common.{rules, arith, ◌<◌, length, ◌∙◌, ap, sym, map}
-use Rattle.std.proofs.lemmas.Grind.{common_steps}
+use Rattle.std.proofs.Common.{arith, ◌∙◌, ap, sym, map}
 use Rattle.enc_modes.specs.Order.{sorted}
 use Rattle.enc_modes.specs.declared.ty.Alt.{Alt}
-use Rattle.enc_modes.proofs.Each.{changed, changed_start, changed_end, changed_step, take_whole}
+use Rattle.enc_modes.proofs.Each.{changed_start, changed_end, changed_step, take_whole}
 use Rattle.enc_modes.proofs.order.each_in_order.Goals as goal
 
 pub loop-group-init : goal.loop-group-init

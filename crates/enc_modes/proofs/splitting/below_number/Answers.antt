@@ -1,0 +1,10 @@
+use Rattle.std.proofs.Common.{rules, tests, nat_lt, ◌∙◌}
+use Rattle.std.proofs.lemmas.Iterator.{YieldsList-from_slice}
+use Rattle.std.proofs.lemmas.Iterator.Consumers.{YieldsList-from_filter, count_from_yields_List}
+use Rattle.enc_modes.proofs.Union.{below_counted}
+use Rattle.enc_modes.proofs.splitting.below_number.Goals as goal
+
+pub returns-clause-value : goal.returns-clause-value
+returns-clause-value c =
+    count_from_yields_List c.filter.result _ c.count.ensures.ran (YieldsList-from_filter _ (λ x. nat_lt x.number c.args.number) (YieldsList-from_slice c.args.alts.now cc) c.filter.ensures.closure (λ x b q k. search (rules, tests)))
+    ∙ below_counted (λ x. x) (λ a. a.number) c.args.number c.args.alts.now
