@@ -4,7 +4,7 @@ ghost use Rattle.enc_names.specs.Finding as spec;
 
 use crate::MethodId;
 
-// What was found so far.
+/// The methods of one name that were found so far, as far as it matters how many they are.
 #[derive(Clone, Copy)]
 pub enum Found {
     Nothing,
@@ -13,7 +13,7 @@ pub enum Found {
 }
 
 impl Found {
-    // What was found, behind one more place that may have a method.
+    /// What was found, behind one more place that may have a method.
     pub fn more(self, method: Option<MethodId>) -> Found
         ensures { result ≡ spec.more self method }
     {
@@ -24,7 +24,7 @@ impl Found {
         }
     }
 
-    // The one method, where one alone was found.
+    /// The one method, or `None` where none or several were found.
     pub fn one(self) -> Option<MethodId>
         ensures { result ≡ spec.one_of self }
     {
