@@ -1,6 +1,5 @@
 -- Look-ups in tables.
-use Rattle.std.specs.Prelude.{bytes_eq, ℕ, Bool, true, false, cond, List, [], ◌∷◌, map, filter, filter_map, flat_map, Option, Some, None, option_map, option_and_then, slice_get}
-use Rattle.enc_modes.specs.declared.ty.Alt.{Alt}
+use Rattle.std.specs.Prelude.{ℕ, List, [], ◌∷◌, map, filter, filter_map, flat_map, Option, Some, None, option_map, option_and_then, slice_get}
 use Rattle.enc_modes.specs.declared.ty.Ty.{Ty, out-Ty}
 use Rattle.enc_modes.specs.declared.ty.Ty.TheOpen.{Ty-F}
 use Rattle.enc_modes.specs.declared.ty.Ty.TheVariants as ty
@@ -9,7 +8,7 @@ use Rattle.enc_modes.specs.Modes.{linear_mode}
 use Rattle.enc_types.specs.declared.names.Meaning.{Meaning}
 use Rattle.enc_types.specs.declared.names.Meaning.TheVariants as is
 use Rattle.enc_types.specs.Words.{place_in}
-use Rattle.enc_types.specs.Names.{Names, found, trait_named}
+use Rattle.enc_types.specs.Names.{Names, found}
 use Rattle.enc_names.specs.declared.members.Slot.{Slot}
 use Rattle.enc_names.specs.declared.members.Signature.{Signature}
 use Rattle.enc_names.specs.declared.members.MethodId.{MethodId}

@@ -5,7 +5,6 @@ use Rattle.enc_ast.specs.declared.decls.Decl.TheVariants.{Trait, Class, Active, 
 use Rattle.enc_ast.specs.declared.decls.Field.{Field}
 use Rattle.enc_ast.specs.declared.decls.Method.{Method}
 use Rattle.enc_ast.specs.declared.decls.Param.{Param}
-use Rattle.enc_ast.specs.declared.decls.Program.{Program}
 use Rattle.enc_ast.specs.declared.TypeText.{TypeText}
 use Rattle.enc_modes.specs.declared.ty.Ty.{Ty}
 use Rattle.enc_modes.specs.declared.ty.Ty.TheVariants as ty

@@ -1,7 +1,6 @@
-use Rattle.std.proofs.Common.{sym, ap, ◌∙◌}
+use Rattle.std.proofs.Common.{sym, ◌∙◌}
 use Rattle.std.specs.Prelude.{flat_map}
-use Rattle.enc_names.specs.Lookups.{method_in, usable_in, only}
-use Rattle.enc_names.specs.Finding.{find_all, one_of}
+use Rattle.enc_names.specs.Lookups.{method_in, usable_in}
 use Rattle.enc_names.proofs.OnlyOne.{find_all-turn, find_all-end, one_of-find_all}
 use Rattle.enc_names.proofs.lookups.Tables.usable_method.Goals as goal
 
