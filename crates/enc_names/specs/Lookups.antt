@@ -54,10 +54,9 @@ usable_in alts = numbers (filter (λ a. linear_mode a.mode) alts)
 abbrev owners_layer : Ty-F Ty → List ℕ
 owners_layer (Ty-F.Actor k) = k ∷ []
 owners_layer (Ty-F.Cap gs) = flat_map usable_in gs
-owners_layer (Ty-F.Bestowed a) = a.number ∷ []
 owners_layer _ = []
 
--- the traits, or the active class, whose methods a receiver of the type can be asked for
+-- the traits, or the active class, whose methods can be called on a receiver of the type
 unfoldable pub owners_of : Ty → List ℕ
 owners_of t = owners_layer (out-Ty t)
 
@@ -66,9 +65,18 @@ abbrev pub only : {A : Type 0} → List A → Option A
 only (x ∷ []) = Some x
 only _ = None
 
--- the method of this name that a receiver of the type can be asked for, where there is exactly one
+-- the method of this name that can be called on a receiver of the type, where there is exactly one
 unfoldable pub method_for : Tables → Ty → List ℕ → Option MethodId
 method_for t u x = only (filter_map (method_in t x) (owners_of u))
+
+abbrev sent_layer : Tables → List ℕ → Ty-F Ty → Option MethodId
+sent_layer t x (Ty-F.Actor k) = method_in t x k
+sent_layer t x (Ty-F.Bestowed a) = method_in t x a.number
+sent_layer t x _ = None
+
+-- the method of this name that a message to a receiver of the type can ask for: one of an active class or of a bestowed trait
+unfoldable pub sent_for : Tables → Ty → List ℕ → Option MethodId
+sent_for t u x = sent_layer t x (out-Ty u)
 
 abbrev class_layer : ℕ × Meaning → Option Ty
 class_layer (k, is.Trait m) = None

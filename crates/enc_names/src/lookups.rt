@@ -80,7 +80,7 @@ impl Tables {
         Some(&slot.ty)
     }
 
-    /// The method of this name that a receiver of the type can be asked for, or `None` where there is
+    /// The method of this name that can be called on a receiver of the type, or `None` where there is
     /// none, or several. It takes no memory.
     #[tactic(auto, unfolding(crate::specs::Lookups::method_for, crate::specs::Lookups::owners_of))]
     pub fn method(&self, ty: &Ty, name: &str) -> Option<MethodId>
@@ -89,7 +89,6 @@ impl Tables {
         match ty {
             Ty::Actor(number) => self.method_in(*number, name),
             Ty::Cap(cap) => self.usable_method(cap, name),
-            Ty::Bestowed(alt) => self.method_in(alt.number, name),
             _ => None,
         }
     }
@@ -122,6 +121,19 @@ impl Tables {
             }
         }
         found
+    }
+
+    /// The method of this name that a message to a receiver of the type can ask for, or `None` where the
+    /// type is no active class and no bestowed trait, or has no such method. It takes no memory.
+    #[tactic(auto, unfolding(crate::specs::Lookups::sent_for))]
+    pub fn sent_method(&self, ty: &Ty, name: &str) -> Option<MethodId>
+        ensures { result ≡ spec.sent_for self.now ty.now name.now }
+    {
+        match ty {
+            Ty::Actor(number) => self.method_in(*number, name),
+            Ty::Bestowed(alt) => self.method_in(alt.number, name),
+            _ => None,
+        }
     }
 
     fn method_in(&self, owner: u32, name: &str) -> Option<MethodId>

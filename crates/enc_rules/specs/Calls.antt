@@ -15,7 +15,7 @@ use Rattle.enc_types.specs.Names.{Names}
 use Rattle.enc_names.specs.declared.members.Slot.{Slot}
 use Rattle.enc_names.specs.declared.members.Signature.{Signature}
 use Rattle.enc_names.specs.Members.{Tables}
-use Rattle.enc_names.specs.Lookups.{method_for, signature_of}
+use Rattle.enc_names.specs.Lookups.{method_for, sent_for, signature_of}
 use Rattle.enc_exprs.specs.declared.uses.Use.TheVariants.{Consumes, Looks}
 use Rattle.enc_exprs.specs.Uses.{this_word, variable, lends, regains}
 use Rattle.enc_exprs.specs.Exprs.{Judged, operand, consumes, judged}
@@ -92,12 +92,12 @@ method_on t x u = option_and_then (signature_of t) (method_for t u x)
 unfoldable pub called : Tables → Option Ty → List ℕ → Option Signature
 called t u x = option_and_then (method_on t x) u
 
-abbrev method_at : Tables → List ℕ → Ty → Option Signature
-method_at t x u = cond (is_target u) (method_on t x u) None
+abbrev sent_to : Tables → List ℕ → Ty → Option Signature
+sent_to t x u = option_and_then (signature_of t) (sent_for t u x)
 
 -- the method that a send names
 unfoldable pub sent : Tables → Option Ty → List ℕ → Option Signature
-sent t u x = option_and_then (method_at t x) u
+sent t u x = option_and_then (sent_to t x) u
 
 -- a receiver of the type has exactly one method of the name that can be called, and it takes so many arguments
 abbrev pub may_call : Receiver → Option Signature → ℕ → Option Ty → Bool
