@@ -16,6 +16,22 @@ pub struct Var {
     pub moved: bool,
 }
 
+impl Var {
+    fn copy(&self, alloc: Global) -> Result<Var, AllocError>
+        ensures { IfOk result (λ copied. copied ≡ self.now) }
+    {
+        let ty = match &self.ty {
+            None => None,
+            Some(ty) => Some(ty.copy(alloc)?),
+        };
+        Ok(Var {
+            word: self.word.copy()?,
+            ty,
+            moved: self.moved,
+        })
+    }
+}
+
 /// The visible variables, in the order in which they were declared. A variable goes by its place in
 /// that order, from 0 on. There are at most 1,024.
 #[derive(Drop)]
@@ -187,6 +203,17 @@ impl Env {
         ensures { self.new ≡ take count self.old }
     {
         self.vars.truncate(count as usize);
+    }
+
+    /// An environment of its own with the same variables, moved or not.
+    pub fn copy(&self) -> Result<Env, AllocError>
+        ensures { IfOk result (λ copied. copied ≡ self.now) }
+    {
+        let mut vars = Vec::new(*self.vars.allocator());
+        for var in &self.vars {
+            vars.push(var.copy(*self.vars.allocator())?)?;
+        }
+        Ok(Env { vars })
     }
 
     /// Each variable that is moved in the other environment is moved in this one too. It takes no memory.
