@@ -13,8 +13,11 @@ use Rattle.enc_modes.specs.declared.ty.Ty.{Ty}
 use Rattle.enc_modes.specs.declared.ty.Ty.TheVariants as ty
 use Rattle.enc_modes.specs.Modes.{is_shareable}
 use Rattle.enc_premises.specs.Premises.{none, ◌⨾◌, node, each, if_known}
-use Rattle.enc_types.specs.Names.{Names}
-use Rattle.enc_types.specs.Written.{Written, written, write_form, write_node, where_it, local_of, is_composed, named_type, group_premises, several, type_of, type_premises}
+use Rattle.enc_modes.specs.Order.{Cap, in_order}
+use Rattle.enc_types.specs.Words.{all_there}
+use Rattle.enc_types.specs.Names.{Names, trait_named}
+use Rattle.enc_types.specs.Plain.{cap_by}
+use Rattle.enc_types.specs.Written.{Written, written, write_form, write_node, where_it, local_of, is_composed, named_type, group_premises, several, type_of, type_premises, type_of_groups}
 
 -- what is written by a form of this span
 abbrev written_form : Names → TypeForm → Span → Written
@@ -118,5 +121,14 @@ ty-cap names x gs is = ap (λ z. z.ty) (written-cap names x gs is)
 
 pub premises-cap : (names : Names) (x : TypeText) (gs : List GroupText) → x.form ≡ f.Cap gs → type_premises names x ≡ each (group_premises names (several gs)) gs ⨾ node x.span ((rule.KSig, if_known is_composed (named_type names gs)) ∷ [])
 premises-cap names x gs is = ap (λ z. z.premises) (written-cap names x gs is)
+
+pub groups-cap : (names : Names) (gs : List GroupText) → type_of_groups names gs ≡ option_map ty.Cap (cap_by (trait_named names) gs)
+groups-cap names gs = go (all_there (λ g. all_there (λ n. trait_named names n.word) g.names) gs)
+  where
+    go : (o : Option Cap) → option_map (λ groups. ty.Cap (in_order groups)) o ≡ option_map ty.Cap (option_map in_order o)
+    go None = refl
+    go (Some groups) = refl
+
+pub ruleset groups = (groups-cap)
 
 pub ruleset types = (ty-int, premises-int, ty-bool, premises-bool, ty-text, premises-text, ty-unit, premises-unit, ty-fut, premises-fut, ty-par, premises-par, ty-list, premises-list, ty-bestowed, premises-bestowed, ty-cap, premises-cap)

@@ -29,7 +29,7 @@ mode_by word.Local = mode.Local
 mode_by word.Read = mode.Read
 mode_by word.Subordinate = mode.Subordinate
 
-abbrev alt_by : ℕ → Option Decl → Option Alt
+abbrev pub alt_by : ℕ → Option Decl → Option Alt
 alt_by k None = None
 alt_by k (Some (Trait d)) = Some (record { number = k; mode = mode_by d.mode })
 alt_by k (Some (Class d)) = None
@@ -48,7 +48,7 @@ group_of ds g = all_there (λ n. trait_of ds n.word) g.names
 abbrev pub groups_of : List Decl → ClassDecl → Option Cap
 groups_of ds c = option_map in_order (all_there (group_of ds) c.groups)
 
-abbrev meaning_of : List Decl → Decl → Meaning
+abbrev pub meaning_of : List Decl → Decl → Meaning
 meaning_of ds (Trait d) = is.Trait (mode_by d.mode)
 meaning_of ds (Class d) = is.Class (groups_of ds d)
 meaning_of ds (Active d) = is.Active
@@ -75,7 +75,7 @@ found_at names k = option_map (λ n. (k, n.is)) (slice_get names k)
 unfoldable pub found : Names → List ℕ → Option (ℕ × Meaning)
 found names x = option_and_then (found_at names) (number_of names x)
 
-abbrev alt_in : ℕ × Meaning → Option Alt
+abbrev pub alt_in : ℕ × Meaning → Option Alt
 alt_in (k, is.Trait m) = Some (record { number = k; mode = m })
 alt_in (k, is.Class c) = None
 alt_in (k, is.Active) = None

@@ -41,7 +41,7 @@ is_type (Some (k, is.Fun)) = false
 unfoldable pub are_types : Names → GroupText → Bool
 are_types names g = every (λ n. is_type (found names n.word)) g.names
 
-abbrev many_names : List Name → Bool
+abbrev pub many_names : List Name → Bool
 many_names (x ∷ y ∷ xs) = true
 many_names _ = false
 
@@ -75,7 +75,7 @@ type_named names x = option_and_then alone_layer (found names x)
 abbrev pub type_of_groups : Names → List GroupText → Option Ty
 type_of_groups names gs = option_map (λ groups. ty.Cap (in_order groups)) (all_there (λ g. all_there (λ n. trait_named names n.word) g.names) gs)
 
-abbrev only_group : Names → GroupText → List Name → Option Ty
+abbrev pub only_group : Names → GroupText → List Name → Option Ty
 only_group names g (x ∷ []) = type_named names x.word
 only_group names g xs = type_of_groups names (g ∷ [])
 
@@ -110,7 +110,7 @@ local_layer _ = None
 unfoldable pub local_of : Ty → Option Alt
 local_of t = local_layer (out-Ty t)
 
-abbrev only_if : (Ty → Bool) → Ty → Option Ty
+abbrev pub only_if : (Ty → Bool) → Ty → Option Ty
 only_if f t = cond (f t) (Some t) None
 
 -- the type, where it holds of it

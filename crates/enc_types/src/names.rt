@@ -1,12 +1,15 @@
 // Names of declarations.
-ghost use Rattle.std.specs.Prelude.{◌≡◌, ◌<◌, length, map, option_map, slice_get, IfOk, IfSome};
+ghost use Rattle.std.specs.Prelude.{◌≡◌, ◌<◌, length, map, option_map, [], ◌∷◌, slice_get, IfOk, IfSome};
 ghost use Rattle.std.specs.Option.{option_copied};
+ghost use Rattle.enc_modes.specs.declared.ty.Ty.TheVariants as types;
+ghost use Rattle.enc_types.specs.Words.{all_there};
 ghost use Rattle.enc_types.specs.Names as spec;
+ghost use Rattle.enc_types.specs.Plain as plain;
 ghost use Rattle.enc_types.specs.Written as written;
 
 use crate::Places;
 use enc_ast::{Decl, GroupText, ModeWord, Row, Word};
-use enc_modes::{Alt, Cap, Group, Mode, Ty};
+use enc_modes::{Alt, Cap, Group, Mode, Ty, copy_cap, in_order};
 use std::alloc::{AllocError, Global};
 use std::marker::Model;
 
@@ -51,7 +54,92 @@ impl Names {
     pub fn of(alloc: Global, decls: &[Decl]) -> Result<Names, AllocError>
         ensures { IfOk result (λ names. names ≡ spec.names_of decls.now) }
     {
-        Err(AllocError)
+        let plain = Names::plain(alloc, decls)?;
+        let rows = plain.meanings(decls)?;
+        let Names { places, .. } = plain;
+        Ok(Names {
+            alloc,
+            places,
+            rows,
+        })
+    }
+
+    fn plain(alloc: Global, decls: &[Decl]) -> Result<Names, AllocError>
+        ensures { IfOk result (λ names. names ≡ plain.plain_names decls.now) }
+    {
+        let mut places = Places::new(alloc);
+        let mut rows = Row::new(alloc);
+        for decl in decls {
+            let word = word_of(decl);
+            places.add(word)?;
+            rows.push(Named {
+                word: word.copy()?,
+                is: plain_meaning(decl),
+            })?;
+        }
+        Ok(Names {
+            alloc,
+            places,
+            rows,
+        })
+    }
+
+    fn meanings(&self, decls: &[Decl]) -> Result<Row<Named>, AllocError>
+        ensures { IfOk result (λ rows. rows ≡ map (plain.named_by (spec.trait_named self.now)) decls.now) }
+    {
+        let mut rows = Row::new(self.alloc);
+        for decl in decls {
+            rows.push(Named {
+                word: word_of(decl).copy()?,
+                is: self.meaning_of(decl)?,
+            })?;
+        }
+        Ok(rows)
+    }
+
+    fn meaning_of(&self, decl: &Decl) -> Result<Meaning, AllocError>
+        ensures { IfOk result (λ is. is ≡ plain.meaning_by (spec.trait_named self.now) decl.now) }
+    {
+        match decl {
+            Decl::Class(decl) => Ok(Meaning::Class(self.cap_named(decl.groups.as_slice())?)),
+            _ => Ok(plain_meaning(decl)),
+        }
+    }
+
+    /// The groups in order, or `None` where one of their names is that of no trait.
+    pub fn cap_named(&self, groups: &[GroupText]) -> Result<Option<Cap>, AllocError>
+        ensures { IfOk result (λ cap. cap ≡ plain.cap_by (spec.trait_named self.now) groups.now) }
+    {
+        match self.groups_named(groups)? {
+            None => Ok(None),
+            Some(groups) => Ok(Some(in_order(groups)?)),
+        }
+    }
+
+    fn groups_named(&self, groups: &[GroupText]) -> Result<Option<Cap>, AllocError>
+        ensures { IfOk result (λ cap. cap ≡ all_there (λ g. all_there (λ n. spec.trait_named self.now n.word) g.names) groups.now) }
+    {
+        let mut rows = Row::new(self.alloc);
+        for group in groups {
+            match self.group_named(group)? {
+                None => return Ok(None),
+                Some(row) => rows.push(row)?,
+            }
+        }
+        Ok(Some(rows))
+    }
+
+    fn group_named(&self, group: &GroupText) -> Result<Option<Group>, AllocError>
+        ensures { IfOk result (λ alts. alts ≡ all_there (λ n. spec.trait_named self.now n.word) group.now.names) }
+    {
+        let mut row = Row::new(self.alloc);
+        for name in group.names.as_slice() {
+            match self.trait_named(name.word.as_str()) {
+                None => return Ok(None),
+                Some(alt) => row.push(alt)?,
+            }
+        }
+        Ok(Some(row))
     }
 
     /// Where the names have their memory.
@@ -107,10 +195,79 @@ impl Names {
         }
     }
 
+    #[tactic(auto, unfolding(crate::specs::Written::type_named, crate::specs::Names::found))]
     /// The type that a name by itself stands for, or `None` where it stands for none.
     pub fn type_named(&self, name: &str) -> Result<Option<Ty>, AllocError>
         ensures { IfOk result (λ ty. ty ≡ written.type_named self.now name.now) }
     {
-        Err(AllocError)
+        let Some(number) = self.find(name) else {
+            return Ok(None);
+        };
+        match self.get(number) {
+            None => Ok(None),
+            Some(named) => self.alone(number, &named.is),
+        }
+    }
+
+    fn alone(&self, number: u32, is: &Meaning) -> Result<Option<Ty>, AllocError>
+        ensures { IfOk result (λ ty. ty ≡ written.alone_layer (number, is.now)) }
+    {
+        match is {
+            Meaning::Trait(mode) => Ok(Some(one_trait(
+                self.alloc,
+                Alt {
+                    number,
+                    mode: *mode,
+                },
+            )?)),
+            Meaning::Class(Some(cap)) => Ok(Some(Ty::Cap(copy_cap(self.alloc, cap)?))),
+            Meaning::Class(None) => Ok(None),
+            Meaning::Active => Ok(Some(Ty::Actor(number))),
+            Meaning::Fun => Ok(None),
+        }
+    }
+}
+
+fn one_trait(alloc: Global, alt: Alt) -> Result<Ty, AllocError>
+    ensures { IfOk result (λ ty. ty ≡ types.Cap ((alt ∷ []) ∷ [])) }
+{
+    let mut group = Row::new(alloc);
+    group.push(alt)?;
+    let mut cap = Row::new(alloc);
+    cap.push(group)?;
+    Ok(Ty::Cap(cap))
+}
+
+fn word_of(decl: &Decl) -> &Word
+    ensures { result.now ≡ spec.word_of decl.now }
+{
+    match decl {
+        Decl::Trait(decl) => &decl.name.word,
+        Decl::Class(decl) => &decl.name.word,
+        Decl::Active(decl) => &decl.name.word,
+        Decl::Fun(decl) => &decl.name.word,
+    }
+}
+
+// What a declaration stands for, apart from the groups of a class.
+fn plain_meaning(decl: &Decl) -> Meaning
+    ensures { result ≡ plain.plain_meaning decl.now }
+{
+    match decl {
+        Decl::Trait(decl) => Meaning::Trait(mode_by(decl.mode)),
+        Decl::Class(_) => Meaning::Class(None),
+        Decl::Active(_) => Meaning::Active,
+        Decl::Fun(_) => Meaning::Fun,
+    }
+}
+
+fn mode_by(word: ModeWord) -> Mode
+    ensures { result ≡ spec.mode_by word }
+{
+    match word {
+        ModeWord::Linear => Mode::Linear,
+        ModeWord::Local => Mode::Local,
+        ModeWord::Read => Mode::Read,
+        ModeWord::Subordinate => Mode::Subordinate,
     }
 }

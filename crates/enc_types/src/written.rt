@@ -10,7 +10,7 @@ ghost use Rattle.enc_types.specs.Written as spec;
 
 use crate::Names;
 use enc_ast::{Boxed, Fail, GroupText, Rule, Span, TypeForm, TypeText};
-use enc_modes::{Alt, Cap, Mode, Ty, is_shareable};
+use enc_modes::{Alt, Cap, Mode, Ty, composes, is_shareable};
 use enc_premises::demand;
 use std::alloc::AllocError;
 
@@ -109,10 +109,15 @@ impl Names {
     }
 
     /// The type that is written, or `None` where it may not be written.
+    #[tactic(auto, using(crate::proofs::KnownTypes::refusals))]
     pub fn ty(&self, text: &TypeText) -> Result<Option<Ty>, AllocError>
         ensures { IfOk result (λ ty. ty ≡ spec.type_of self.now text.now) }
     {
-        Err(AllocError)
+        match self.written(text) {
+            Ok(ty) => Ok(ty),
+            Err(Fail::Reject(_)) => Ok(None),
+            Err(Fail::Memory) => Err(AllocError),
+        }
     }
 
     /// Whether each name of the group is one of a trait.
@@ -140,10 +145,14 @@ impl Names {
         true
     }
 
+    #[tactic(auto, unfolding(crate::specs::Written::is_composed))]
     fn is_composed(&self, ty: &Ty) -> Result<bool, AllocError>
         ensures { IfOk result (λ composed. composed ≡ spec.is_composed ty.now) }
     {
-        Err(AllocError)
+        match ty {
+            Ty::Cap(cap) => composes(self.alloc(), cap),
+            _ => Ok(true),
+        }
     }
 
     fn named_type(&self, groups: &[GroupText]) -> Result<Option<Ty>, AllocError>
@@ -158,10 +167,14 @@ impl Names {
         }
     }
 
+    #[tactic(auto, using(crate::proofs::TypeFolds::groups))]
     fn type_of_groups(&self, groups: &[GroupText]) -> Result<Option<Ty>, AllocError>
         ensures { IfOk result (λ ty. ty ≡ spec.type_of_groups self.now groups.now) }
     {
-        Err(AllocError)
+        match self.cap_named(groups)? {
+            None => Ok(None),
+            Some(cap) => Ok(Some(Ty::Cap(cap))),
+        }
     }
 }
 
