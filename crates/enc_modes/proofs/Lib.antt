@@ -6,3 +6,4 @@ pub mod Same
 pub mod Sorting
 pub mod Tells
 pub mod Union
+pub mod Equal

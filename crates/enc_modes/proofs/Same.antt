@@ -3,7 +3,7 @@ use Rattle.std.proofs.Common.{◌≡◌, ℕ, ◌==◌, Bool, ap, ◌∙◌}
 use Rattle.enc_modes.specs.declared.ty.Alt.{Alt}
 use Rattle.enc_modes.specs.declared.ty.Ty.{Ty, out-Ty}
 use Rattle.enc_modes.specs.declared.ty.Ty.TheOpen.{Ty-F}
-use Rattle.enc_modes.specs.declared.ty.Ty.TheViews.{roll-Ty}
+use Rattle.enc_modes.specs.declared.ty.Ty.TheViews.{roll-Ty, out-roll-Ty}
 use Rattle.enc_modes.specs.declared.ty.Ty.TheVariants as ty
 use Rattle.enc_modes.specs.declared.ty.Ty.TheVariants.{rolls-Int, rolls-Bool, rolls-Text, rolls-Unit, rolls-Actor, rolls-Cap, rolls-Bestowed, rolls-Fut, rolls-Par, rolls-List}
 use Rattle.enc_modes.specs.declared.ty.Ty.TheFolds.{fold-roll-Ty}
@@ -11,7 +11,7 @@ use Rattle.enc_modes.specs.Order.{Cap}
 use Rattle.enc_modes.specs.Equality.{same, same_layer, same_cap, same_alt}
 
 -- what compares with the form
-abbrev against : Ty-F (Ty → Bool) → Ty → Bool
+abbrev pub against : Ty-F (Ty → Bool) → Ty → Bool
 against l u = same_layer l (out-Ty u)
 
 pub same-int : (u : Ty) → same ty.Int u ≡ same_layer Ty-F.Int (out-Ty u)
@@ -55,27 +55,27 @@ unfolding same roll-Ty denote.Hole.Carrier.roll
 same-list t u = ap (λ z. same z u) (rolls-List t) ∙ ap (λ z. z u) (fold-roll-Ty (Ty → Bool) against (Ty-F.List t))
 
 pub both-actor : (k l : ℕ) → same (ty.Actor k) (ty.Actor l) ≡ (k == l)
-unfolding out-Ty roll-Ty denote.Hole.Carrier.roll denote.Hole.Carrier.out
-both-actor k l = same-actor k (ty.Actor l) ∙ ap (λ z. same_layer (Ty-F.Actor k) (out-Ty z)) (rolls-Actor l)
+unfolding roll-Ty denote.Hole.Carrier.roll
+both-actor k l = same-actor k (ty.Actor l) ∙ ap (λ z. same_layer (Ty-F.Actor k) (out-Ty z)) (rolls-Actor l) ∙ ap (λ z. same_layer (Ty-F.Actor k) z) (out-roll-Ty (Ty-F.Actor l))
 
 pub both-cap : (gs hs : Cap) → same (ty.Cap gs) (ty.Cap hs) ≡ (same_cap gs hs)
-unfolding out-Ty roll-Ty denote.Hole.Carrier.roll denote.Hole.Carrier.out
-both-cap gs hs = same-cap gs (ty.Cap hs) ∙ ap (λ z. same_layer (Ty-F.Cap gs) (out-Ty z)) (rolls-Cap hs)
+unfolding roll-Ty denote.Hole.Carrier.roll
+both-cap gs hs = same-cap gs (ty.Cap hs) ∙ ap (λ z. same_layer (Ty-F.Cap gs) (out-Ty z)) (rolls-Cap hs) ∙ ap (λ z. same_layer (Ty-F.Cap gs) z) (out-roll-Ty (Ty-F.Cap hs))
 
 pub both-bestowed : (a b : Alt) → same (ty.Bestowed a) (ty.Bestowed b) ≡ (same_alt a b)
-unfolding out-Ty roll-Ty denote.Hole.Carrier.roll denote.Hole.Carrier.out
-both-bestowed a b = same-bestowed a (ty.Bestowed b) ∙ ap (λ z. same_layer (Ty-F.Bestowed a) (out-Ty z)) (rolls-Bestowed b)
+unfolding roll-Ty denote.Hole.Carrier.roll
+both-bestowed a b = same-bestowed a (ty.Bestowed b) ∙ ap (λ z. same_layer (Ty-F.Bestowed a) (out-Ty z)) (rolls-Bestowed b) ∙ ap (λ z. same_layer (Ty-F.Bestowed a) z) (out-roll-Ty (Ty-F.Bestowed b))
 
 pub both-fut : (t u : Ty) → same (ty.Fut t) (ty.Fut u) ≡ (same t u)
-unfolding out-Ty roll-Ty denote.Hole.Carrier.roll denote.Hole.Carrier.out Rattle.enc_modes.specs.declared.ty.Ty.TheBlock.shown-the_row-Ty-0 denote.Hole.Carrier.shown denote.Hole.Carrier.hidden
-both-fut t u = same-fut t (ty.Fut u) ∙ ap (λ z. same_layer (Ty-F.Fut (same t)) (out-Ty z)) (rolls-Fut u)
+unfolding roll-Ty denote.Hole.Carrier.roll
+both-fut t u = same-fut t (ty.Fut u) ∙ ap (λ z. same_layer (Ty-F.Fut (same t)) (out-Ty z)) (rolls-Fut u) ∙ ap (λ z. same_layer (Ty-F.Fut (same t)) z) (out-roll-Ty (Ty-F.Fut u))
 
 pub both-par : (t u : Ty) → same (ty.Par t) (ty.Par u) ≡ (same t u)
-unfolding out-Ty roll-Ty denote.Hole.Carrier.roll denote.Hole.Carrier.out Rattle.enc_modes.specs.declared.ty.Ty.TheBlock.shown-the_row-Ty-0 denote.Hole.Carrier.shown denote.Hole.Carrier.hidden
-both-par t u = same-par t (ty.Par u) ∙ ap (λ z. same_layer (Ty-F.Par (same t)) (out-Ty z)) (rolls-Par u)
+unfolding roll-Ty denote.Hole.Carrier.roll
+both-par t u = same-par t (ty.Par u) ∙ ap (λ z. same_layer (Ty-F.Par (same t)) (out-Ty z)) (rolls-Par u) ∙ ap (λ z. same_layer (Ty-F.Par (same t)) z) (out-roll-Ty (Ty-F.Par u))
 
 pub both-list : (t u : Ty) → same (ty.List t) (ty.List u) ≡ (same t u)
-unfolding out-Ty roll-Ty denote.Hole.Carrier.roll denote.Hole.Carrier.out Rattle.enc_modes.specs.declared.ty.Ty.TheBlock.shown-the_row-Ty-0 denote.Hole.Carrier.shown denote.Hole.Carrier.hidden
-both-list t u = same-list t (ty.List u) ∙ ap (λ z. same_layer (Ty-F.List (same t)) (out-Ty z)) (rolls-List u)
+unfolding roll-Ty denote.Hole.Carrier.roll
+both-list t u = same-list t (ty.List u) ∙ ap (λ z. same_layer (Ty-F.List (same t)) (out-Ty z)) (rolls-List u) ∙ ap (λ z. same_layer (Ty-F.List (same t)) z) (out-roll-Ty (Ty-F.List u))
 
 pub ruleset same_forms = (same-int, same-bool, same-text, same-unit, same-actor, same-cap, same-bestowed, same-fut, same-par, same-list, both-actor, both-cap, both-bestowed, both-fut, both-par, both-list)

@@ -3,6 +3,7 @@
 
 mod composing;
 mod equality;
+mod laws;
 mod modes;
 mod order;
 mod splitting;
@@ -10,6 +11,7 @@ mod ty;
 
 pub use composing::{choose_of, composes, pack_of};
 pub use equality::copy_cap;
+pub use laws::{same_is_equal, split_is_packed};
 pub use modes::{is_linear, is_sendable, is_shareable, mode_of};
 pub use order::in_order;
 pub use splitting::split_of;

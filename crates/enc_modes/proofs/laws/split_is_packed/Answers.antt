@@ -1,0 +1,5 @@
+use Rattle.enc_modes.proofs.Equal as laws
+use Rattle.enc_modes.proofs.laws.split_is_packed.Goals as goal
+
+pub returns : goal.returns
+returns c = laws.split_is_packed
