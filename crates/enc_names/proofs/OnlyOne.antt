@@ -9,10 +9,12 @@ use Rattle.enc_names.specs.declared.finding.Found.TheVariants.{Nothing, One, Sev
 use Rattle.enc_names.specs.Lookups.{only}
 use Rattle.enc_names.specs.Finding.{more, find_all, one_of}
 
+-- behind those of two lists it is found as behind the first, then the second
 pub find_all-append : (f : ℕ → Option MethodId) (s : Found) (a b : List ℕ) → find_all f s (a ++ b) ≡ find_all f (find_all f s a) b
 find_all-append f s [] b = refl
 find_all-append f s (k ∷ a) b = find_all-append f (more s (f k)) a b
 
+-- one more is still several
 more_several : (o : Option MethodId) → more Several o ≡ Several
 more_several None = refl
 more_several (Some m) = refl

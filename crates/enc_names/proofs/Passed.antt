@@ -2,4 +2,5 @@
 use Rattle.enc_premises.proofs.Passing.{is_memory, no_fault}
 use Rattle.enc_premises.proofs.Telling.{tells, accepts}
 
+-- what a goal on the answer can need
 pub ruleset judged = (tells, accepts, is_memory, no_fault)

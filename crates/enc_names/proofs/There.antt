@@ -4,11 +4,12 @@ use Rattle.std.specs.Prelude.{filter_map}
 use Rattle.std.specs.List.{cons_option, Contains}
 use Rattle.std.specs.Str.{bytes_eq}
 use Rattle.std.proofs.lemmas.Slice.Eq.{bytes_eq-Decides}
-use Rattle.enc_modes.specs.declared.ty.Ty.{Ty}
+use Rattle.enc_modes.specs.declared.ty.Ty.{Ty, out-Ty}
+use Rattle.enc_modes.specs.declared.ty.Ty.TheOpen.{Ty-F}
 use Rattle.enc_types.specs.Words.{place_in}
 use Rattle.enc_names.specs.declared.members.MethodId.{MethodId}
 use Rattle.enc_names.specs.Members.{Tables}
-use Rattle.enc_names.specs.Lookups.{fields_of, field_of, methods_of, method_in, owners_of, only, method_for}
+use Rattle.enc_names.specs.Lookups.{fields_of, field_of, methods_of, method_in, owners_of, only, method_for, sent_layer, sent_for}
 
 -- What is in this place has this name.
 abbrev Named : {A : Type 0} → (A → List ℕ) → List A → List ℕ → ℕ → Type 0
@@ -35,10 +36,17 @@ method_in-there t x k m h = go (place_in (map (λ s. s.word) (methods_of t k)) x
     go None e p = absurd (grind arith)
     go (Some i) e p = let q : record { owner = k; index = i } ≡ m = grind arith in subst (λ (n : MethodId). (k ≡ n.owner) × Named (λ s. s.word) (methods_of t k) x n.index) q (refl, place_in-there (λ s. s.word) (methods_of t k) x i e)
 
+-- it stands there in its own owner
+at_owner : (t : Tables) (x : List ℕ) (k : ℕ) (m : MethodId) → method_in t x k ≡ Some m → Named (λ s. s.word) (methods_of t m.owner) x m.index
+at_owner t x k m h =
+    let p = method_in-there t x k m h in
+    subst (λ n. Named (λ s. s.word) (methods_of t n) x m.index) p.0 p.1
+
 -- It is given by one of them.
 abbrev Given : (ℕ → Option MethodId) → List ℕ → MethodId → Type 0
 Given f ks m = (k : ℕ) × Contains ks k × (f k ≡ Some m)
 
+-- what one of the later ones gives is given by one of all
 given_later : (f : ℕ → Option MethodId) (k : ℕ) (ks : List ℕ) (m : MethodId) → Given f ks m → Given f (k ∷ ks) m
 given_later f k ks m g = (g.0, (suc g.1.0, omega arith, g.1.2), g.2)
 
@@ -57,21 +65,40 @@ only-first [] x h = absurd (grind arith)
 only-first (y ∷ []) x h = let q : y ≡ x = grind arith in ap (λ z. z ∷ []) q
 only-first (y ∷ z ∷ xs) x h = absurd (grind arith)
 
+-- the method that can be called is given by one of the owners
 given : (t : Tables) (u : Ty) (x : List ℕ) (m : MethodId) → method_for t u x ≡ Some m → Given (method_in t x) (owners_of u) m
 unfolding method_for
 given t u x m h = filter_map-there (method_in t x) (owners_of u) m [] (only-first (filter_map (method_in t x) (owners_of u)) m h)
 
+-- a field that is found is there
 pub field_exists : (t : Tables) (k : ℕ) (x : List ℕ) (i : ℕ) → field_of t k x ≡ Some i → Named (λ s. s.word) (fields_of t k) x i
 unfolding field_of
 field_exists t k x i h = place_in-there (λ s. s.word) (fields_of t k) x i h
 
+-- a method that can be called is there
 pub method_exists : (t : Tables) (u : Ty) (x : List ℕ) (m : MethodId) → method_for t u x ≡ Some m → Named (λ s. s.word) (methods_of t m.owner) x m.index
-method_exists t u x m h =
-    let g = given t u x m h in
-    let p = method_in-there t x g.0 m g.2 in
-    subst (λ n. Named (λ s. s.word) (methods_of t n) x m.index) p.0 p.1
+method_exists t u x m h = let g = given t u x m h in at_owner t x g.0 m g.2
 
+-- its owner is one of those whose methods can be called
 pub owner_exists : (t : Tables) (u : Ty) (x : List ℕ) (m : MethodId) → method_for t u x ≡ Some m → Contains (owners_of u) m.owner
 owner_exists t u x m h =
     let g = given t u x m h in
     subst (λ n. Contains (owners_of u) n) (method_in-there t x g.0 m g.2).0 g.1
+
+-- a method that a message can ask for is there
+sent_layer-there : (t : Tables) (x : List ℕ) (l : Ty-F Ty) (m : MethodId) → sent_layer t x l ≡ Some m → Named (λ s. s.word) (methods_of t m.owner) x m.index
+sent_layer-there t x (Ty-F.Actor k) m h = at_owner t x k m h
+sent_layer-there t x (Ty-F.Bestowed a) m h = at_owner t x a.number m h
+sent_layer-there t x Ty-F.Int m h = absurd (grind arith)
+sent_layer-there t x Ty-F.Bool m h = absurd (grind arith)
+sent_layer-there t x Ty-F.Text m h = absurd (grind arith)
+sent_layer-there t x Ty-F.Unit m h = absurd (grind arith)
+sent_layer-there t x (Ty-F.Cap gs) m h = absurd (grind arith)
+sent_layer-there t x (Ty-F.Fut v) m h = absurd (grind arith)
+sent_layer-there t x (Ty-F.Par v) m h = absurd (grind arith)
+sent_layer-there t x (Ty-F.List v) m h = absurd (grind arith)
+
+-- what a message to a receiver of a type can ask for is there
+pub sent_method_exists : (t : Tables) (u : Ty) (x : List ℕ) (m : MethodId) → sent_for t u x ≡ Some m → Named (λ s. s.word) (methods_of t m.owner) x m.index
+unfolding sent_for
+sent_method_exists t u x m h = sent_layer-there t x (out-Ty u) m h

@@ -69,7 +69,7 @@ only _ = None
 unfoldable pub method_for : Tables → Ty → List ℕ → Option MethodId
 method_for t u x = only (filter_map (method_in t x) (owners_of u))
 
-abbrev sent_layer : Tables → List ℕ → Ty-F Ty → Option MethodId
+abbrev pub sent_layer : Tables → List ℕ → Ty-F Ty → Option MethodId
 sent_layer t x (Ty-F.Actor k) = method_in t x k
 sent_layer t x (Ty-F.Bestowed a) = method_in t x a.number
 sent_layer t x _ = None

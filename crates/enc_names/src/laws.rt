@@ -10,18 +10,23 @@ ghost use Rattle.enc_names.specs.declared.members.Slot.{Slot};
 ghost use Rattle.enc_names.specs.declared.members.Signature.{Signature};
 ghost use Rattle.enc_names.specs.declared.members.MethodId.{MethodId};
 ghost use Rattle.enc_names.specs.Members.{Tables};
-ghost use Rattle.enc_names.specs.Lookups.{fields_of, field_of, owners_of, method_for, signature_of};
+ghost use Rattle.enc_names.specs.Lookups.{fields_of, field_of, owners_of, method_for, sent_for, signature_of};
 
 /// A field that is found has its name and a type.
 pub fn field_exists()
     ensures { (t : Tables) (k : ℕ) (x : List ℕ) (i : ℕ) → field_of t k x ≡ Some i → (s : Slot) × (slice_get (fields_of t k) i ≡ Some s) × (s.word ≡ x) }
 {}
 
-/// A method that is found has its name and a signature, and its owner is one whose methods the receiver
-/// can be asked for.
+/// A method that can be called has its name and a signature, and its owner is one whose methods can be
+/// called on the receiver.
 pub fn method_exists()
     ensures signature { (t : Tables) (u : Ty) (x : List ℕ) (m : MethodId) → method_for t u x ≡ Some m → (s : Signature) × (signature_of t m ≡ Some s) × (s.word ≡ x) }
     ensures owner { (t : Tables) (u : Ty) (x : List ℕ) (m : MethodId) → method_for t u x ≡ Some m → Contains (owners_of u) m.owner }
+{}
+
+/// A method that a message can ask for has its name and a signature.
+pub fn sent_method_exists()
+    ensures { (t : Tables) (u : Ty) (x : List ℕ) (m : MethodId) → sent_for t u x ≡ Some m → (s : Signature) × (signature_of t m ≡ Some s) × (s.word ≡ x) }
 {}
 
 /// The declarations of a program keep all rules, or exactly one premise is the first that fails, and never

@@ -9,6 +9,6 @@ mod members;
 mod stand_in;
 
 pub use judged::tables;
-pub use laws::{field_exists, method_exists, tables_answer};
+pub use laws::{field_exists, method_exists, sent_method_exists, tables_answer};
 pub use lookups::Tables;
 pub use members::{MethodId, Signature, Slot};
