@@ -33,15 +33,16 @@ pub record Judged : Type 0 where
 abbrev pub operand : Env → Use → (Ty → Bool) → Judged → Premises
 operand env u want a = a.premises env u ⨾ node a.span ((rule.EType, if_known want (a.ty env)) ∷ [])
 
-abbrev copied : Env → (Ty → Bool) → Judged → Premises
+-- an operand in a copying place
+abbrev pub copied : Env → (Ty → Bool) → Judged → Premises
 copied env = operand env Copies
 
 -- two operands of whose types the same is asked
-abbrev two : Env → (Ty → Bool) → Judged → Judged → Premises
+abbrev pub two : Env → (Ty → Bool) → Judged → Judged → Premises
 two env want a b = copied env want a ⨾ copied env want b
 
 -- two operands of one type, which the first fixes
-abbrev alike : Env → (Ty → Bool) → Judged → Judged → Premises
+abbrev pub alike : Env → (Ty → Bool) → Judged → Judged → Premises
 alike env want a b = copied env want a ⨾ copied env (like (a.ty env)) b
 
 abbrev pub binary : Operator → Env → Judged → Judged → Premises
@@ -134,3 +135,9 @@ expr_premises names env u x = (judged names x).premises env u
 abbrev pub consumes : Env → Option (List ℕ) → Env
 consumes env None = env
 consumes env (Some x) = lends env x
+
+-- the variables after an expression in a place
+abbrev pub after : Use → Env → Option (List ℕ) → Env
+after Copies env x = env
+after Consumes env x = consumes env x
+after Looks env x = env

@@ -2,3 +2,4 @@ pub mod Uses
 pub mod Types
 pub mod Exprs
 pub mod Typing
+pub mod Known

@@ -1,20 +1,22 @@
 -- What the forms of expressions ask of types, and what they make of them.
-use Rattle.std.specs.Prelude.{Bool, true, false, ◌||◌, Option, Some, None, is_some, option_map, option_and_then}
+use Rattle.std.specs.Prelude.{Bool, true, false, Option, Some, None, is_some, option_and_then}
 use Rattle.enc_ast.specs.declared.Operator.{Operator}
 use Rattle.enc_ast.specs.declared.Operator.TheVariants as op
 use Rattle.enc_modes.specs.declared.ty.Ty.{Ty, out-Ty}
 use Rattle.enc_modes.specs.declared.ty.Ty.TheOpen.{Ty-F}
-use Rattle.enc_modes.specs.declared.ty.Ty.TheVariants as ty
 use Rattle.enc_modes.specs.Equality.{same}
+use Rattle.enc_modes.specs.Modes.{is_shareable}
+use Rattle.enc_exprs.specs.declared.operands.Asked.{Asked}
+use Rattle.enc_exprs.specs.declared.operands.Asked.TheVariants as asked
 
-abbrev int_layer : Ty-F Ty → Bool
+abbrev pub int_layer : Ty-F Ty → Bool
 int_layer Ty-F.Int = true
 int_layer _ = false
 
 unfoldable pub is_int : Ty → Bool
 is_int t = int_layer (out-Ty t)
 
-abbrev bool_layer : Ty-F Ty → Bool
+abbrev pub bool_layer : Ty-F Ty → Bool
 bool_layer Ty-F.Bool = true
 bool_layer _ = false
 
@@ -42,7 +44,7 @@ null_layer _ = false
 unfoldable pub can_be_null : Ty → Bool
 can_be_null t = null_layer (out-Ty t)
 
-abbrev item_layer : Ty-F Ty → Option Ty
+abbrev pub item_layer : Ty-F Ty → Option Ty
 item_layer (Ty-F.List t) = Some t
 item_layer _ = None
 
@@ -61,6 +63,16 @@ items t = option_and_then item_of t
 abbrev pub like : Option Ty → Ty → Bool
 like None u = true
 like (Some t) u = same t u
+
+-- ---- what a form asks of an operand
+
+abbrev pub asks : Asked → Ty → Bool
+asks asked.Int = is_int
+asks asked.Bool = is_bool
+asks asked.Plain = is_plain
+asks asked.Shareable = is_shareable
+asks asked.List = is_list
+asks asked.Null = can_be_null
 
 -- ---- operators
 

@@ -1,5 +1,5 @@
 -- Variables in their places.
-use Rattle.std.specs.Prelude.{codes, ℕ, Bool, true, false, not, ◌&&◌, ◌||◌, cond, List, [], ◌∷◌, Option, Some, None, is_some}
+use Rattle.std.specs.Prelude.{codes, ℕ, Bool, true, false, not, ◌||◌, List, [], ◌∷◌, Option, Some, None, is_some}
 use Rattle.enc_ast.specs.declared.rules.Span.{Span}
 use Rattle.enc_ast.specs.declared.rules.Rule.TheVariants as rule
 use Rattle.enc_premises.specs.Premises.{Premises, node}
@@ -28,7 +28,7 @@ variable env u mine x s = node s (
 unfoldable pub visible : Env → List ℕ → Span → Premises
 visible env x s = node s ((rule.EVar, is_some (find env x)) ∷ [])
 
-abbrev taken_at : Env → Option ℕ → Env
+abbrev pub taken_at : Env → Option ℕ → Env
 taken_at env None = env
 taken_at env (Some i) = takes env i
 

@@ -1,12 +1,14 @@
-// Places of expressions.
-ghost use Rattle.std.specs.Prelude.{◌≡◌, ℕ, List};
-ghost use Rattle.enc_modes.specs.declared.ty.Ty.{Ty};
-ghost use Rattle.enc_types.specs.Names.{Names};
-ghost use Rattle.enc_flow.specs.Env.{Env};
-ghost use Rattle.enc_ast.specs.declared.Expr.{Expr};
-ghost use Rattle.enc_exprs.specs.declared.uses.Use.{Use as Place};
-ghost use Rattle.enc_exprs.specs.Exprs as e;
-ghost use Rattle.enc_exprs.specs.Typing as t;
+// Variables in their places.
+ghost use Rattle.std.specs.Prelude.{◌≡◌, ◌<◌, length, IfSome, is_some};
+ghost use Rattle.std.specs.Option.{option_copied};
+ghost use Rattle.enc_premises.specs.Passing.{Passes};
+ghost use Rattle.enc_flow.specs.Env.{at_number, find, linear as is_linear_known, moved_of, ty_of};
+ghost use Rattle.enc_exprs.specs.Uses as spec;
+
+use enc_ast::{Fail, Rule, Span};
+use enc_flow::Env;
+use enc_modes::{Ty, is_linear};
+use enc_premises::demand;
 
 /// What an expression does with a variable that it is.
 #[derive(Clone, Copy, Debug, PartialEq, Eq)]
@@ -19,7 +21,93 @@ pub enum Use {
     Looks,
 }
 
-pub fn cites()
-    ensures a { e.judged ≡ e.judged }
-    ensures b { (names : Names) (env last : Env) (x : Expr) (u : Place) (v : Ty) → t.IsTyped names env x u v last → e.consumes ≡ e.consumes }
-{}
+/// Refuses a variable in a place where there is none of this name, where it was moved, or where it is
+/// linear and the place lets no linear one stand. `mine` says that it is `this`, which is never moved.
+/// It takes no memory.
+#[tactic(auto, using(enc_premises::proofs::Passing::passing, crate::proofs::Variables::variables), unfolding(crate::specs::Uses::variable, enc_flow::specs::Env::find))]
+pub fn variable(env: &Env, place: Use, mine: bool, name: &str, span: Span) -> Result<(), Fail>
+    ensures { Passes result (spec.variable env.now place mine name.now span) }
+{
+    let found = env.find(name);
+    demand(Rule::EVar, span, found.is_some())?;
+    demand(Rule::EMoved, span, !is_moved(env, found))?;
+    demand(
+        Rule::ECopy,
+        span,
+        lets_linear(place, mine) || !is_linear_at(env, found),
+    )
+}
+
+/// Refuses a name where there is no variable of this name. It takes no memory.
+#[tactic(auto, using(crate::proofs::Variables::variables), unfolding(crate::specs::Uses::visible, enc_flow::specs::Env::find))]
+pub fn visible(env: &Env, name: &str, span: Span) -> Result<(), Fail>
+    ensures { Passes result (spec.visible env.now name.now span) }
+{
+    demand(Rule::EVar, span, env.find(name).is_some())
+}
+
+/// The variable of a name is moved from now on, where its type is linear. Where there is no variable of
+/// the name, nothing changes. It takes no memory.
+#[tactic(auto, unfolding(crate::specs::Uses::lends))]
+pub fn lend(env: &mut Env, name: &str)
+    ensures { env.new ≡ spec.lends env.old name.now }
+{
+    if let Some(variable) = env.find(name) {
+        env.take(variable);
+    }
+}
+
+/// The variable of a name can be used again. Where there is no variable of the name, nothing changes. It
+/// takes no memory.
+#[tactic(auto, unfolding(crate::specs::Uses::regains))]
+pub fn regain(env: &mut Env, name: &str)
+    ensures { env.new ≡ spec.regains env.old name.now }
+{
+    if let Some(variable) = env.find(name) {
+        env.give(variable);
+    }
+}
+
+/// The type of a variable, or `None` where it isn't known or there is no variable of this name.
+#[tactic(auto, unfolding(enc_flow::specs::Env::find))]
+pub fn type_in<'a>(env: &'a Env, name: &str) -> Option<&'a Ty>
+    ensures { option_copied result ≡ ty_of (find env.now name.now) }
+{
+    match env.find(name) {
+        Some(variable) => env.known(variable),
+        None => None,
+    }
+}
+
+fn lets_linear(place: Use, mine: bool) -> bool
+    ensures { result ≡ spec.lets_linear place mine }
+{
+    match place {
+        Use::Copies => false,
+        Use::Consumes => !mine,
+        Use::Looks => true,
+    }
+}
+
+fn is_moved(env: &Env, found: Option<u32>) -> bool
+    requires { IfSome found (λ variable. variable < length env.now) }
+    ensures { result ≡ moved_of (at_number env.now found) }
+{
+    match found {
+        Some(variable) => env.is_moved(variable),
+        None => false,
+    }
+}
+
+fn is_linear_at(env: &Env, found: Option<u32>) -> bool
+    requires { IfSome found (λ variable. variable < length env.now) }
+    ensures { result ≡ is_linear_known (ty_of (at_number env.now found)) }
+{
+    match found {
+        Some(variable) => match env.known(variable) {
+            Some(ty) => is_linear(ty),
+            None => false,
+        },
+        None => false,
+    }
+}

@@ -1,0 +1,150 @@
+// The types of expressions.
+ghost use Rattle.std.specs.Prelude.{◌≡◌, ℕ, List, Some, IfOk, OnOk, OnErr};
+ghost use Rattle.enc_ast.specs.declared.rules.Span.{Span as Place};
+ghost use Rattle.enc_modes.specs.declared.ty.Ty.TheVariants as ty;
+ghost use Rattle.enc_premises.specs.Passing.{Passes};
+ghost use Rattle.enc_flow.specs.Env.{find, ty_of};
+ghost use Rattle.enc_types.specs.Names.{Names as Table};
+ghost use Rattle.enc_exprs.specs.declared.uses.Use.TheVariants.{Consumes, Looks};
+ghost use Rattle.enc_exprs.specs.Types.{can_be_null, is_bool, is_int, is_list};
+ghost use Rattle.enc_exprs.specs.Uses.{variable as variable_premises};
+ghost use Rattle.enc_exprs.specs.Exprs as spec;
+
+use crate::lists::{append, at, list};
+use crate::nothing::{empty, nil, written};
+use crate::operands::{Asked, binary, operand};
+use crate::uses::{Use, lend, type_in, variable};
+use enc_ast::{Expr, ExprForm, Fail, Span};
+use enc_flow::Env;
+use enc_modes::Ty;
+use enc_types::Names;
+use std::alloc::Global;
+
+/// The type of an expression in a place, or `None` where no premise fails and it isn't known. It refuses
+/// by the first premise that fails, in the order of the text.
+#[cycle(expr)]
+#[tactic(auto, using(crate::proofs::Meaning::exprs))]
+pub fn expr_type(
+    alloc: Global,
+    names: &Names,
+    env: &Env,
+    expr: &Expr,
+    place: Use,
+) -> Result<Option<Ty>, Fail>
+    ensures premises { Passes result (spec.expr_premises names.now env.now place expr.now) }
+    ensures ty { IfOk result (λ t. t ≡ spec.expr_type names.now env.now expr.now) }
+{
+    match &expr.form {
+        ExprForm::Binary(operator, left, right) => {
+            binary(alloc, names, env, *operator, left.get(), right.get())
+        }
+        ExprForm::Negative(inner) => negative(alloc, names, env, inner.get()),
+        ExprForm::Not(inner) => not(alloc, names, env, inner.get()),
+        ExprForm::Int(_) => Ok(Some(Ty::Int)),
+        ExprForm::Text(_) => Ok(Some(Ty::Text)),
+        ExprForm::True => Ok(Some(Ty::Bool)),
+        ExprForm::False => Ok(Some(Ty::Bool)),
+        ExprForm::Unit => Ok(Some(Ty::Unit)),
+        ExprForm::This => named(alloc, env, place, true, "this", expr.span),
+        ExprForm::Name(word) => named(alloc, env, place, false, word.as_str(), expr.span),
+        ExprForm::Parens(inner) => expr_type(alloc, names, env, inner.get(), Use::Copies),
+        ExprForm::List(elements) => list(alloc, names, env, elements.as_slice()),
+        ExprForm::Null(text) => written(names, text, Asked::Null, expr.span),
+        ExprForm::Empty(text) => empty(alloc, names, text, expr.span),
+        ExprForm::Nil(text) => nil(alloc, names, text, expr.span),
+        ExprForm::Len(inner) => length(alloc, names, env, inner.get()),
+        ExprForm::IsNull(inner) => is_null(alloc, names, env, inner.get()),
+        ExprForm::At(left, right) => at(alloc, names, env, left.get(), right.get()),
+        ExprForm::Append(left, right) => append(alloc, names, env, left.get(), right.get()),
+    }
+}
+
+#[tactic(auto, using(enc_premises::proofs::Passing::passing, crate::proofs::Memory::out_of_memory))]
+fn named(
+    alloc: Global,
+    env: &Env,
+    place: Use,
+    mine: bool,
+    name: &str,
+    span: Span,
+) -> Result<Option<Ty>, Fail>
+    ensures premises { Passes result (variable_premises env.now place mine name.now span) }
+    ensures ty { IfOk result (λ t. t ≡ ty_of (find env.now name.now)) }
+{
+    variable(env, place, mine, name, span)?;
+    match type_in(env, name) {
+        Some(ty) => Ok(Some(ty.copy(alloc)?)),
+        None => Ok(None),
+    }
+}
+
+#[cycle(expr)]
+#[tactic(auto, using(enc_premises::proofs::Passing::passing))]
+fn negative(alloc: Global, names: &Names, env: &Env, inner: &Expr) -> Result<Option<Ty>, Fail>
+    ensures premises { Passes result (spec.copied env.now is_int (spec.judged names.now inner.now)) }
+    ensures ty { IfOk result (λ t. t ≡ Some ty.Int) }
+{
+    operand(alloc, names, env, inner, Use::Copies, Asked::Int)?;
+    Ok(Some(Ty::Int))
+}
+
+#[cycle(expr)]
+#[tactic(auto, using(enc_premises::proofs::Passing::passing))]
+fn not(alloc: Global, names: &Names, env: &Env, inner: &Expr) -> Result<Option<Ty>, Fail>
+    ensures premises { Passes result (spec.copied env.now is_bool (spec.judged names.now inner.now)) }
+    ensures ty { IfOk result (λ t. t ≡ Some ty.Bool) }
+{
+    operand(alloc, names, env, inner, Use::Copies, Asked::Bool)?;
+    Ok(Some(Ty::Bool))
+}
+
+#[cycle(expr)]
+#[tactic(auto, using(enc_premises::proofs::Passing::passing))]
+fn length(alloc: Global, names: &Names, env: &Env, inner: &Expr) -> Result<Option<Ty>, Fail>
+    ensures premises { Passes result (spec.copied env.now is_list (spec.judged names.now inner.now)) }
+    ensures ty { IfOk result (λ t. t ≡ Some ty.Int) }
+{
+    operand(alloc, names, env, inner, Use::Copies, Asked::List)?;
+    Ok(Some(Ty::Int))
+}
+
+#[cycle(expr)]
+#[tactic(auto, using(enc_premises::proofs::Passing::passing))]
+fn is_null(alloc: Global, names: &Names, env: &Env, inner: &Expr) -> Result<Option<Ty>, Fail>
+    ensures premises { Passes result (spec.operand env.now Looks can_be_null (spec.judged names.now inner.now)) }
+    ensures ty { IfOk result (λ t. t ≡ Some ty.Bool) }
+{
+    operand(alloc, names, env, inner, Use::Looks, Asked::Null)?;
+    Ok(Some(Ty::Bool))
+}
+
+/// The variables after an expression in a consuming place: where it is a variable of a linear type, that
+/// one is moved. It takes no memory.
+#[tactic(auto, using(crate::proofs::Meaning::names))]
+pub fn consume(env: &mut Env, expr: &Expr)
+    ensures { (names : Table) → env.new ≡ spec.consumes env.old (spec.judged names expr.now).name }
+{
+    match &expr.form {
+        ExprForm::This => lend(env, "this"),
+        ExprForm::Name(word) => lend(env, word.as_str()),
+        _ => {}
+    }
+}
+
+/// The type of an expression in a consuming place, as `expr_type` tells it, and the variables after it.
+/// Where it refuses, and where memory runs out, the variables stay as they were.
+pub fn consumed(
+    alloc: Global,
+    names: &Names,
+    env: &mut Env,
+    expr: &Expr,
+) -> Result<Option<Ty>, Fail>
+    ensures premises { Passes result (spec.expr_premises names.now env.old Consumes expr.now) }
+    ensures ty { IfOk result (λ t. t ≡ spec.expr_type names.now env.old expr.now) }
+    ensures after { OnOk result (env.new ≡ spec.consumes env.old (spec.judged names.now expr.now).name) }
+    ensures err { OnErr result (env.new ≡ env.old) }
+{
+    let ty = expr_type(alloc, names, env, expr, Use::Consumes)?;
+    consume(env, expr);
+    Ok(ty)
+}

@@ -1,0 +1,107 @@
+// Lists and their elements.
+ghost use Rattle.std.specs.Prelude.{◌≡◌, map, Some, IfOk, option_map};
+ghost use Rattle.std.specs.Option.{option_copied};
+ghost use Rattle.enc_modes.specs.declared.ty.Ty.TheVariants as ty;
+ghost use Rattle.enc_premises.specs.Premises.{each, ◌⨾◌};
+ghost use Rattle.enc_premises.specs.Passing.{Passes};
+ghost use Rattle.enc_exprs.specs.Types.{is_list, is_int, like, items as items_of};
+ghost use Rattle.enc_exprs.specs.Exprs as spec;
+
+use crate::operands::{Asked, matching, operand};
+use crate::types::items;
+use crate::uses::Use;
+use enc_ast::{Boxed, Expr, Fail};
+use enc_flow::Env;
+use enc_modes::Ty;
+use enc_types::Names;
+use std::alloc::{AllocError, Global};
+
+/// The type of a list of these elements.
+#[cycle(expr)]
+#[tactic(auto, using(enc_premises::proofs::Passing::passing, crate::proofs::Memory::out_of_memory, crate::proofs::Elements::list_none))]
+pub fn list(alloc: Global, names: &Names, env: &Env, elements: &[Expr]) -> Result<Option<Ty>, Fail>
+    ensures premises { Passes result (spec.elements env.now (map (spec.judged names.now) elements.now)) }
+    ensures ty { IfOk result (λ t. t ≡ spec.elements_type env.now (map (spec.judged names.now) elements.now)) }
+{
+    match elements {
+        [] => Ok(list_of(alloc, Some(Ty::Unit))?),
+        [first, others @ ..] => {
+            let ty = operand(alloc, names, env, first, Use::Copies, Asked::Shareable)?;
+            all_match(alloc, names, env, others, ty.as_ref())?;
+            Ok(list_of(alloc, ty)?)
+        }
+    }
+}
+
+#[cycle(expr)]
+#[tactic(auto, using(enc_premises::proofs::Passing::passing))]
+fn all_match(
+    alloc: Global,
+    names: &Names,
+    env: &Env,
+    elements: &[Expr],
+    first: Option<&Ty>,
+) -> Result<(), Fail>
+    ensures { Passes result (each (spec.copied env.now (like (option_copied first.entry))) (map (spec.judged names.now) elements.now)) }
+{
+    for element in elements {
+        matching(alloc, names, env, element, first)?;
+    }
+    Ok(())
+}
+
+/// The type of an element of a list at a number.
+#[cycle(expr)]
+#[tactic(auto, using(enc_premises::proofs::Passing::passing))]
+pub fn at(
+    alloc: Global,
+    names: &Names,
+    env: &Env,
+    list: &Expr,
+    number: &Expr,
+) -> Result<Option<Ty>, Fail>
+    ensures premises { Passes result (spec.copied env.now is_list (spec.judged names.now list.now) ⨾ spec.copied env.now is_int (spec.judged names.now number.now)) }
+    ensures ty { IfOk result (λ t. t ≡ items_of (spec.expr_type names.now env.now list.now)) }
+{
+    let ty = operand(alloc, names, env, list, Use::Copies, Asked::List)?;
+    operand(alloc, names, env, number, Use::Copies, Asked::Int)?;
+    Ok(into_item(ty))
+}
+
+/// The type of a list with one more element.
+#[cycle(expr)]
+#[tactic(auto, using(enc_premises::proofs::Passing::passing))]
+pub fn append(
+    alloc: Global,
+    names: &Names,
+    env: &Env,
+    list: &Expr,
+    element: &Expr,
+) -> Result<Option<Ty>, Fail>
+    ensures premises { Passes result (spec.copied env.now is_list (spec.judged names.now list.now) ⨾ spec.copied env.now (like (items_of (spec.expr_type names.now env.now list.now))) (spec.judged names.now element.now)) }
+    ensures ty { IfOk result (λ t. t ≡ spec.expr_type names.now env.now list.now) }
+{
+    let ty = operand(alloc, names, env, list, Use::Copies, Asked::List)?;
+    matching(alloc, names, env, element, items(ty.as_ref()))?;
+    Ok(ty)
+}
+
+/// The type of lists of a type, where it is known.
+pub fn list_of(alloc: Global, item: Option<Ty>) -> Result<Option<Ty>, AllocError>
+    ensures { IfOk result (λ t. t ≡ option_map ty.List item) }
+{
+    match item {
+        Some(item) => Ok(Some(Ty::List(Boxed::new(alloc, item)?))),
+        None => Ok(None),
+    }
+}
+
+#[tactic(auto, unfolding(crate::specs::Types::item_of))]
+fn into_item(list: Option<Ty>) -> Option<Ty>
+    ensures { result ≡ items_of list }
+{
+    match list {
+        Some(Ty::List(item)) => Some(item.into_inner()),
+        _ => None,
+    }
+}
