@@ -1,5 +1,5 @@
 -- When the traits of a disjunction may share a place.
-use Rattle.std.specs.Prelude.{bytes_eq, ℕ, Bool, true, false, not, ◌&&◌, ◌||◌, cond, List, [], ◌∷◌, ◌++◌, map, filter, flat_map, Option, Some, None, slice_get}
+use Rattle.std.specs.Prelude.{bytes_eq, ℕ, Bool, true, false, not, ◌&&◌, ◌||◌, List, [], ◌∷◌, map, filter, flat_map, Option, Some, None, slice_get}
 use Rattle.enc_ast.specs.declared.decls.Decl.{Decl}
 use Rattle.enc_ast.specs.declared.decls.Decl.TheVariants.{Trait, Class, Active, Fun}
 use Rattle.enc_ast.specs.declared.decls.Field.{Field}
@@ -18,7 +18,7 @@ use Rattle.enc_types.specs.Written.{type_of}
 
 -- ---- the fields of traits
 
-abbrev fields_by : Option Decl → List Field
+abbrev pub fields_by : Option Decl → List Field
 fields_by None = []
 fields_by (Some (Trait d)) = d.fields
 fields_by (Some (Class d)) = []
@@ -33,7 +33,7 @@ trait_fields ds k = fields_by (slice_get ds k)
 abbrev pub Entry : Type 0
 Entry = List ℕ × Option Ty
 
-abbrev entry_of : Names → Field → Entry
+abbrev pub entry_of : Names → Field → Entry
 entry_of names f = (f.name.word, type_of names f.ty)
 
 -- each name once, as it stands first
@@ -47,7 +47,7 @@ entries_of ds names a = firsts (map (entry_of names) (trait_fields ds a.number))
 
 -- ---- conflicts
 
-abbrev same_known : Option Ty → Option Ty → Bool
+abbrev pub same_known : Option Ty → Option Ty → Bool
 same_known None u = true
 same_known (Some t) None = true
 same_known (Some t) (Some u) = same t u
@@ -61,7 +61,7 @@ abbrev pub consistent : List Entry → Bool
 consistent [] = true
 consistent (e ∷ es) = every (agree e) es && consistent es
 
-abbrev subordinate_mode : Mode → Bool
+abbrev pub subordinate_mode : Mode → Bool
 subordinate_mode mode.Subordinate = true
 subordinate_mode _ = false
 
@@ -69,7 +69,7 @@ subordinate_mode _ = false
 abbrev pub may_leave : List Decl → Names → Alt → Bool
 may_leave ds names a = not (subordinate_mode a.mode) && every (λ f. if_known is_sendable (type_of names f.ty)) (trait_fields ds a.number)
 
-abbrev add_trait : Option Alt → List Alt → List Alt
+abbrev pub add_trait : Option Alt → List Alt → List Alt
 add_trait None alts = alts
 add_trait (Some a) alts = a ∷ alts
 
@@ -78,10 +78,10 @@ abbrev pub traits_in : Names → List Name → List Alt
 traits_in names [] = []
 traits_in names (x ∷ xs) = add_trait (trait_named names x.word) (traits_in names xs)
 
-abbrev alts_share : List Decl → Names → List Alt → Bool
+abbrev pub alts_share : List Decl → Names → List Alt → Bool
 alts_share ds names alts = every (may_leave ds names) alts && consistent (flat_map (entries_of ds names) alts)
 
-abbrev many_share : List Decl → Names → List Name → Bool
+abbrev pub many_share : List Decl → Names → List Name → Bool
 many_share ds names (x ∷ y ∷ xs) = alts_share ds names (traits_in names (x ∷ y ∷ xs))
 many_share ds names _ = true
 

@@ -1,2 +1,5 @@
 pub mod Conflicts
 pub mod Rules
+pub mod Nodes
+pub mod Known
+pub mod Laws

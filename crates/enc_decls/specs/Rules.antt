@@ -1,11 +1,9 @@
 -- What the rules ask of declarations.
-use Rattle.std.specs.Prelude.{bytes_eq, ℕ, Bool, true, false, not, ◌&&◌, ◌||◌, List, [], ◌∷◌, map, codes, Option, Some, None, option_map}
+use Rattle.std.specs.Prelude.{bytes_eq, ℕ, Bool, true, false, not, ◌&&◌, List, [], ◌∷◌, map, codes, Option, Some, None}
 use Rattle.enc_ast.specs.declared.rules.Rule.{Rule}
 use Rattle.enc_ast.specs.declared.rules.Rule.TheVariants as rule
 use Rattle.enc_ast.specs.declared.decls.Decl.{Decl}
 use Rattle.enc_ast.specs.declared.decls.Decl.TheVariants.{Trait, Class, Active, Fun}
-use Rattle.enc_ast.specs.declared.decls.ActiveDecl.{ActiveDecl}
-use Rattle.enc_ast.specs.declared.decls.ClassDecl.{ClassDecl}
 use Rattle.enc_ast.specs.declared.decls.Field.{Field}
 use Rattle.enc_ast.specs.declared.decls.GroupText.{GroupText}
 use Rattle.enc_ast.specs.declared.decls.Method.{Method}
@@ -13,7 +11,6 @@ use Rattle.enc_ast.specs.declared.decls.Param.{Param}
 use Rattle.enc_ast.specs.declared.decls.Program.{Program}
 use Rattle.enc_ast.specs.declared.rules.Span.{Span}
 use Rattle.enc_ast.specs.declared.TypeText.{TypeText}
-use Rattle.enc_modes.specs.declared.ty.Alt.{Alt}
 use Rattle.enc_modes.specs.declared.ty.Mode.{Mode}
 use Rattle.enc_modes.specs.declared.ty.Mode.TheVariants as mode
 use Rattle.enc_modes.specs.declared.ty.Ty.{Ty, out-Ty}
@@ -22,7 +19,7 @@ use Rattle.enc_modes.specs.declared.ty.Ty.TheVariants as ty
 use Rattle.enc_modes.specs.Order.{Cap}
 use Rattle.enc_modes.specs.Modes.{mode_of, is_shareable, composes}
 use Rattle.enc_modes.specs.Equality.{same}
-use Rattle.enc_premises.specs.Premises.{Premises, none, ◌⨾◌, node, each, each_after, if_known}
+use Rattle.enc_premises.specs.Premises.{Premises, ◌⨾◌, node, each, each_after, if_known}
 use Rattle.enc_premises.specs.First.{AllHold}
 use Rattle.enc_types.specs.Words.{has, every, some}
 use Rattle.enc_types.specs.Names.{Names, word_of, mode_by, groups_of, names_of}
@@ -127,14 +124,14 @@ module _ (ds : List Decl) (names : Names) where
 
 -- ---- the program
 
-abbrev known_same : Option Ty → Ty → Bool
+abbrev pub known_same : Option Ty → Ty → Bool
 known_same None t = false
 known_same (Some u) t = same u t
 
-abbrev is_written : Names → TypeText → Ty → Bool
+abbrev pub is_written : Names → TypeText → Ty → Bool
 is_written names text t = known_same (type_of names text) t
 
-abbrev takes_ints : Names → List Param → Bool
+abbrev pub takes_ints : Names → List Param → Bool
 takes_ints names (p ∷ []) = is_written names p.ty (ty.List ty.Int)
 takes_ints names _ = false
 

@@ -1,7 +1,125 @@
-// What the rules ask of the declarations of a program.
-ghost use Rattle.std.specs.Prelude.{◌≡◌};
-ghost use Rattle.enc_decls.specs.Rules.{table_premises};
+// The declarations of a program.
+ghost use Rattle.std.specs.Prelude.{◌≡◌, []};
+ghost use Rattle.enc_premises.specs.Premises.{each_after};
+ghost use Rattle.enc_premises.specs.Passing.{Passes};
+ghost use Rattle.enc_types.specs.Names.{names_of, word_of, mode_by};
+ghost use Rattle.enc_decls.specs.Rules.{table_premises, decl_premises};
+ghost use Rattle.enc_decls.specs.Nodes as spec;
 
-pub fn cites()
-    ensures { table_premises ≡ table_premises }
-{}
+use crate::classes::judge_class;
+use crate::main_class::has_main;
+use crate::members::{Owner, members};
+use crate::routines::{is_function, routine_types};
+use enc_ast::{ActiveDecl, Decl, Fail, Method, ModeWord, Program, Rule, TraitDecl, Word};
+use enc_modes::Mode;
+use enc_premises::demand;
+use enc_types::{Names, Places};
+use std::alloc::Global;
+
+/// Refuses a program by the first rule that its declarations break, in the order of the text: each
+/// declaration behind its parts, and at the end the program as a whole. It answers `Memory` where
+/// memory runs out.
+#[tactic(auto, using(crate::proofs::Passing::passing), unfolding(crate::specs::Rules::table_premises))]
+pub fn judge(alloc: Global, program: &Program, names: &Names) -> Result<(), Fail>
+    requires { names.now ≡ names_of program.now.decls }
+    ensures { Passes result (table_premises program.now) }
+{
+    let decls = program.decls.as_slice();
+    each_decl(alloc, decls, names)?;
+    let has_main = has_main(alloc, decls, names)?;
+    demand(Rule::KMain, program.span, has_main)
+}
+
+#[tactic(auto, using(crate::proofs::Loops::afters))]
+fn each_decl(alloc: Global, decls: &[Decl], names: &Names) -> Result<(), Fail>
+    requires { names.now ≡ names_of decls.now }
+    ensures { Passes result (each_after (decl_premises decls.now names.now) [] decls.now) }
+{
+    let mut seen = Places::new(alloc);
+    for decl in decls {
+        let word = word_of(decl);
+        let new = !seen.has(word.as_str());
+        judge_decl(alloc, decls, names, new, decl)?;
+        seen.add(word)?;
+    }
+    Ok(())
+}
+
+fn word_of(decl: &Decl) -> &Word
+    ensures { result.now ≡ Rattle.enc_types.specs.Names.word_of decl.now }
+{
+    match decl {
+        Decl::Trait(decl) => &decl.name.word,
+        Decl::Class(decl) => &decl.name.word,
+        Decl::Active(decl) => &decl.name.word,
+        Decl::Fun(decl) => &decl.name.word,
+    }
+}
+
+fn judge_decl(
+    alloc: Global,
+    decls: &[Decl],
+    names: &Names,
+    new: bool,
+    decl: &Decl,
+) -> Result<(), Fail>
+    requires { spec.StandsForItself decls.now names.now new decl.now }
+    ensures { Passes result (spec.decl_node decls.now names.now new decl.now) }
+{
+    match decl {
+        Decl::Trait(decl) => judge_trait(alloc, names, new, decl),
+        Decl::Class(decl) => judge_class(alloc, decls, names, new, decl),
+        Decl::Active(decl) => judge_active(alloc, names, new, decl),
+        Decl::Fun(decl) => judge_function(alloc, names, new, decl),
+    }
+}
+
+#[tactic(auto, using(crate::proofs::Passing::passing))]
+fn judge_trait(alloc: Global, names: &Names, new: bool, decl: &TraitDecl) -> Result<(), Fail>
+    ensures { Passes result (spec.trait_node names.now new decl.now) }
+{
+    let owner = Owner::Trait(mode_by(decl.mode));
+    members(
+        alloc,
+        names,
+        owner,
+        decl.fields.as_slice(),
+        decl.methods.as_slice(),
+    )?;
+    demand(Rule::KName, decl.span, new)
+}
+
+fn mode_by(word: ModeWord) -> Mode
+    ensures { result ≡ Rattle.enc_types.specs.Names.mode_by word }
+{
+    match word {
+        ModeWord::Linear => Mode::Linear,
+        ModeWord::Local => Mode::Local,
+        ModeWord::Read => Mode::Read,
+        ModeWord::Subordinate => Mode::Subordinate,
+    }
+}
+
+#[tactic(auto, using(crate::proofs::Passing::passing))]
+fn judge_active(alloc: Global, names: &Names, new: bool, decl: &ActiveDecl) -> Result<(), Fail>
+    ensures { Passes result (spec.active_node names.now new decl.now) }
+{
+    members(
+        alloc,
+        names,
+        Owner::Active,
+        decl.fields.as_slice(),
+        decl.methods.as_slice(),
+    )?;
+    demand(Rule::KName, decl.span, new)
+}
+
+#[tactic(auto, using(crate::proofs::Passing::passing))]
+fn judge_function(alloc: Global, names: &Names, new: bool, decl: &Method) -> Result<(), Fail>
+    ensures { Passes result (spec.function_node names.now new decl.now) }
+{
+    routine_types(names, decl)?;
+    demand(Rule::KName, decl.span, new)?;
+    let is_function = is_function(alloc, names, decl)?;
+    demand(Rule::KSig, decl.span, is_function)
+}

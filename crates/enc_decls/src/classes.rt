@@ -1,0 +1,80 @@
+// Classes of passive objects.
+ghost use Rattle.std.specs.Prelude.{◌≡◌, true, IfOk};
+ghost use Rattle.std.specs.Option.{option_copied};
+ghost use Rattle.enc_premises.specs.Premises.{each, if_known};
+ghost use Rattle.enc_premises.specs.Passing.{Passes};
+ghost use Rattle.enc_types.specs.Names.{groups_of};
+ghost use Rattle.enc_decls.specs.Rules as rules;
+ghost use Rattle.enc_decls.specs.Nodes as spec;
+
+use crate::groups::may_share;
+use enc_ast::{ClassDecl, Decl, Fail, GroupText, Rule};
+use enc_modes::{Cap, Mode, composes, mode_of};
+use enc_premises::demand;
+use enc_types::{Meaning, Names};
+use std::alloc::{AllocError, Global};
+
+/// Refuses a class by the first of its groups that breaks a rule, then by its name unless that is
+/// new, and then by what the groups make together.
+#[tactic(auto, using(crate::proofs::Passing::passing))]
+pub fn judge_class(
+    alloc: Global,
+    decls: &[Decl],
+    names: &Names,
+    new: bool,
+    class: &ClassDecl,
+) -> Result<(), Fail>
+    requires { new ≡ true → spec.groups_named names.now class.now.name.word ≡ groups_of decls.now class.now }
+    ensures { Passes result (spec.class_node decls.now names.now new class.now) }
+{
+    each_group(alloc, decls, names, class.groups.as_slice())?;
+    demand(Rule::KName, class.span, new)?;
+    let groups = groups_named(names, class.name.word.as_str());
+    let is_class = is_class(alloc, groups)?;
+    demand(Rule::KClass, class.span, is_class)
+}
+
+#[tactic(auto, using(crate::proofs::Loops::rests))]
+fn each_group(
+    alloc: Global,
+    decls: &[Decl],
+    names: &Names,
+    groups: &[GroupText],
+) -> Result<(), Fail>
+    ensures { Passes result (each (rules.group_premises decls.now names.now) groups.now) }
+{
+    for group in groups {
+        judge_group(alloc, decls, names, group)?;
+    }
+    Ok(())
+}
+
+#[tactic(auto, using(crate::proofs::Passing::passing))]
+fn judge_group(alloc: Global, decls: &[Decl], names: &Names, group: &GroupText) -> Result<(), Fail>
+    ensures { Passes result (rules.group_premises decls.now names.now group.now) }
+{
+    demand(Rule::KName, group.span, names.are_traits(group))?;
+    let shares = may_share(alloc, decls, names, group)?;
+    demand(Rule::KOr, group.span, shares)
+}
+
+#[tactic(auto, unfolding(enc_types::specs::Names::found))]
+// The groups of the class that the name stands for, as far as they are known.
+fn groups_named<'a>(names: &'a Names, name: &str) -> Option<&'a Cap>
+    ensures { option_copied result ≡ spec.groups_named names.now name.now }
+{
+    match &names.get(names.find(name)?)?.is {
+        Meaning::Class(Some(groups)) => Some(groups),
+        _ => None,
+    }
+}
+
+#[tactic(auto, unfolding(crate::specs::Rules::is_class))]
+fn is_class(alloc: Global, groups: Option<&Cap>) -> Result<bool, AllocError>
+    ensures { IfOk result (λ it. it ≡ if_known rules.is_class (option_copied groups.entry)) }
+{
+    let Some(groups) = groups else {
+        return Ok(true);
+    };
+    Ok(composes(alloc, groups)? && mode_of(groups) != Mode::Read)
+}

@@ -1,0 +1,133 @@
+// Disjunctions of traits.
+ghost use Rattle.std.specs.Prelude.{◌≡◌, ◌++◌, map, flat_map, IfOk, OnOk};
+ghost use Rattle.enc_modes.specs.Modes.{is_sendable};
+ghost use Rattle.enc_premises.specs.Premises.{if_known};
+ghost use Rattle.enc_types.specs.Words.{every};
+ghost use Rattle.enc_types.specs.Written.{type_of};
+ghost use Rattle.enc_decls.specs.Conflicts as spec;
+
+use crate::known::{Entry, are_consistent};
+use enc_ast::{Decl, Field, GroupText, Name, Row};
+use enc_modes::{Alt, Mode, Ty};
+use enc_types::{Names, Places};
+use std::alloc::{AllocError, Global};
+
+/// Whether the group is one trait, or its traits may share a place: none is subordinate, each field
+/// of theirs may go to another actor, and fields of one name have one type.
+#[tactic(auto, unfolding(crate::specs::Conflicts::may_share))]
+pub fn may_share(
+    alloc: Global,
+    decls: &[Decl],
+    names: &Names,
+    group: &GroupText,
+) -> Result<bool, AllocError>
+    ensures { IfOk result (λ it. it ≡ spec.may_share decls.now names.now group.now) }
+{
+    match group.names.as_slice() {
+        [] | [_] => Ok(true),
+        words => alts_share(
+            alloc,
+            decls,
+            names,
+            traits_in(alloc, names, words)?.as_slice(),
+        ),
+    }
+}
+
+fn traits_in(alloc: Global, names: &Names, words: &[Name]) -> Result<Row<Alt>, AllocError>
+    ensures { IfOk result (λ alts. alts ≡ spec.traits_in names.now words.now) }
+{
+    let mut alts = Row::new(alloc);
+    for name in words {
+        if let Some(alt) = names.trait_named(name.word.as_str()) {
+            alts.push(alt)?;
+        }
+    }
+    Ok(alts)
+}
+
+fn alts_share(
+    alloc: Global,
+    decls: &[Decl],
+    names: &Names,
+    alts: &[Alt],
+) -> Result<bool, AllocError>
+    ensures { IfOk result (λ it. it ≡ spec.alts_share decls.now names.now alts.now) }
+{
+    for alt in alts {
+        if !may_leave(decls, names, *alt)? {
+            return Ok(false);
+        }
+    }
+    let entries = entries(alloc, decls, names, alts)?;
+    are_consistent(alloc, entries.as_slice())
+}
+
+// Whether the trait isn't subordinate and each of its fields may go to another actor.
+fn may_leave(decls: &[Decl], names: &Names, alt: Alt) -> Result<bool, AllocError>
+    ensures { IfOk result (λ it. it ≡ spec.may_leave decls.now names.now alt) }
+{
+    if alt.mode == Mode::Subordinate {
+        return Ok(false);
+    }
+    for field in trait_fields(decls, alt.number) {
+        if !may_be_sent(&names.ty(&field.ty)?) {
+            return Ok(false);
+        }
+    }
+    Ok(true)
+}
+
+fn may_be_sent(ty: &Option<Ty>) -> bool
+    ensures { result ≡ if_known is_sendable ty.now }
+{
+    match ty {
+        None => true,
+        Some(ty) => enc_modes::is_sendable(ty),
+    }
+}
+
+fn trait_fields(decls: &[Decl], number: u32) -> &[Field]
+    ensures { result.now ≡ spec.trait_fields decls.now number }
+{
+    match decls.get(number as usize) {
+        Some(Decl::Trait(decl)) => decl.fields.as_slice(),
+        _ => &[],
+    }
+}
+
+fn entries(
+    alloc: Global,
+    decls: &[Decl],
+    names: &Names,
+    alts: &[Alt],
+) -> Result<Row<Entry>, AllocError>
+    ensures { IfOk result (λ entries. entries ≡ flat_map (spec.entries_of decls.now names.now) alts.now) }
+{
+    let mut entries = Row::new(alloc);
+    for alt in alts {
+        add_fields(alloc, names, trait_fields(decls, alt.number), &mut entries)?;
+    }
+    Ok(entries)
+}
+
+#[tactic(auto, using(crate::proofs::Firsts::firsts_from))]
+// Adds the fields of a trait, each name once, as it stands first.
+fn add_fields(
+    alloc: Global,
+    names: &Names,
+    fields: &[Field],
+    entries: &mut Row<Entry>,
+) -> Result<(), AllocError>
+    ensures { OnOk result (entries.new ≡ entries.old ++ spec.firsts (map (spec.entry_of names.now) fields.now)) }
+{
+    let mut seen = Places::new(alloc);
+    for field in fields {
+        let word = &field.name.word;
+        if !seen.has(word.as_str()) {
+            seen.add(word)?;
+            entries.push((word.copy()?, names.ty(&field.ty)?))?;
+        }
+    }
+    Ok(())
+}
