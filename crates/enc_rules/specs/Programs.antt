@@ -24,10 +24,10 @@ use Rattle.enc_rules.specs.Stmts.{acts, all_premises, last_returns}
 
 -- ---- bodies
 
-abbrev param_var : Names → Param → Var
+abbrev pub param_var : Names → Param → Var
 param_var names p = record { word = p.name.word; ty = Some (type_or_unit names p.ty); moved = false }
 
-abbrev this_var : Names → Option ℕ → Env
+abbrev pub this_var : Names → Option ℕ → Env
 this_var names None = []
 this_var names (Some k) = record { word = this_word; ty = this_type names k; moved = false } ∷ []
 

@@ -93,7 +93,7 @@ let_after_of x o = declares o.after x.word o.ty
 abbrev pub let_after : Context → Env → Name → SourceForm → Env
 let_after ctx env x src = let_after_of x (outcome ctx env src)
 
-abbrev var_type : Env → Name → Option Ty
+abbrev pub var_type : Env → Name → Option Ty
 var_type env x = ty_of (find env x.word)
 
 abbrev pub assign_premises : Context → Env → Name → Expr → Span → Premises
@@ -146,7 +146,7 @@ atomic_premises ctx env x a s = expr_premises ctx.tables.names env Copies x ⨾ 
 abbrev pub both_fresh : Env → Name → Name → Bool
 both_fresh env y z = fresh env y && (fresh env z && not (bytes_eq y.word z.word))
 
-abbrev split_ok : Option Ty → Option Ty → Option Ty → Bool
+abbrev pub split_ok : Option Ty → Option Ty → Option Ty → Bool
 split_ok (Some w) (Some l) (Some r) = splits w l r
 split_ok (Some w) None r = is_linear w
 split_ok (Some w) (Some l) None = is_linear w
@@ -158,11 +158,11 @@ split_premises ctx env x y t z u s = variable env Consumes false x.word x.span �
 abbrev pub split_after : Context → Env → Name → Name → TypeText → Name → TypeText → Env
 split_after ctx env x y t z u = declares (declares (lends env x.word) y.word (type_of ctx.tables.names t)) z.word (type_of ctx.tables.names u)
 
-abbrev pack_known : Option Ty → Option Ty → Option Ty
+abbrev pub pack_known : Option Ty → Option Ty → Option Ty
 pack_known (Some t) (Some u) = packed t u
 pack_known _ _ = None
 
-abbrev pack_ok : Option Ty → Option Ty → Bool
+abbrev pub pack_ok : Option Ty → Option Ty → Bool
 pack_ok (Some t) (Some u) = is_some (packed t u)
 pack_ok (Some t) None = is_linear t
 pack_ok None (Some u) = is_linear u
@@ -183,10 +183,10 @@ pack_premises ctx env x y z a b s =
 abbrev pub pack_after : Context → Env → Name → Name → Name → List Act → List Act → Env
 pack_after ctx env x y z a b = merged (block_after ctx env (pack_start env x y z) a) (block_after ctx env env b)
 
-abbrev choice : Context → Env → Name → Name → Option Ty
+abbrev pub choice : Context → Env → Name → Name → Option Ty
 choice ctx env x t = option_and_then (λ u. chosen u (trait_named ctx.tables.names t.word)) (var_type env x)
 
-abbrev choose_ok : Context → Env → Name → Name → Bool
+abbrev pub choose_ok : Context → Env → Name → Name → Bool
 choose_ok ctx env x t = if_known (λ u. is_some (chosen u (trait_named ctx.tables.names t.word))) (var_type env x)
 
 abbrev pub choose_premises : Context → Env → Name → Name → Name → Span → Premises
@@ -198,7 +198,7 @@ choose_after ctx env x t y = declares (lends env x.word) y.word (choice ctx env 
 abbrev pub return_premises : Context → Env → Expr → Span → Premises
 return_premises ctx env x s = expr_premises ctx.tables.names env Consumes x ⨾ node s (outside ctx ∷ (rule.SReturn, if_known (same ctx.result) (expr_type ctx.tables.names env x)) ∷ [])
 
-abbrev prints : Context → Env → Expr → Bool
+abbrev pub prints : Context → Env → Expr → Bool
 prints ctx env x = if_known is_plain (expr_type ctx.tables.names env x)
 
 abbrev pub print_premises : Context → Env → List Expr → Span → Premises
