@@ -18,16 +18,20 @@ use Rattle.enc_modes.proofs.Tells.{alt_tells, cap_tells}
 abbrev Known : Type 0
 Known = (t : Ty) × ((u : Ty) → same t u ≡ true → t ≡ u)
 
+-- the types of a layer
 abbrev types : Ty-F Known → Ty-F Ty
 types y = map-Ty Known Ty (λ e. e.0) y
 
+-- the tests of a layer's types
 abbrev tests : Ty-F Ty → Ty-F (Ty → Bool)
 tests l = map-Ty Ty (Ty → Bool) same l
 
+-- sameness layer by layer
 same_rolled : (l : Ty-F Ty) (u : Ty) → same (roll-Ty l) u ≡ same_layer (tests l) (out-Ty u)
 unfolding same
 same_rolled l u = ap (λ z. z u) (fold-roll-Ty (Ty → Bool) against l)
 
+-- layers that are the same are equal
 layer_equal : (y : Ty-F Known) (l : Ty-F Ty) → same_layer (tests (types y)) l ≡ true → types y ≡ l
 layer_equal Ty-F.Int Ty-F.Int h = refl
 layer_equal Ty-F.Bool Ty-F.Bool h = refl
@@ -41,15 +45,18 @@ layer_equal (Ty-F.Par t) (Ty-F.Par u) h = ap Ty-F.Par (t.1 u h)
 layer_equal (Ty-F.List t) (Ty-F.List u) h = ap Ty-F.List (t.1 u h)
 layer_equal _ _ h = absurd (false≢true h)
 
+-- types that are the same are equal
 pub same_equal : (t u : Ty) → same t u ≡ true → t ≡ u
 same_equal = ind-Ty (λ t. (u : Ty) → same t u ≡ true → t ≡ u) (λ x y is u h.
     let e : same_layer (tests x) (out-Ty u) ≡ true = sym (same_rolled x u) ∙ h in
     let f : types y ≡ out-Ty u = layer_equal y (out-Ty u) (rw is e) in
     ap roll-Ty (sym is ∙ f) ∙ roll-out-Ty u)
 
+-- a type that is the same as itself
 abbrev Itself : Type 0
 Itself = (t : Ty) × (same t t ≡ true)
 
+-- a layer of such types is the same as itself
 layer_itself : (y : Ty-F Itself) → same_layer (tests (map-Ty Itself Ty (λ e. e.0) y)) (map-Ty Itself Ty (λ e. e.0) y) ≡ true
 layer_itself Ty-F.Int = refl
 layer_itself Ty-F.Bool = refl
@@ -62,16 +69,20 @@ layer_itself (Ty-F.Fut t) = t.1
 layer_itself (Ty-F.Par t) = t.1
 layer_itself (Ty-F.List t) = t.1
 
+-- each type is the same as itself
 same_itself : (t : Ty) → same t t ≡ true
 same_itself = ind-Ty (λ t. same t t ≡ true) (λ x y is.
     same_rolled x (roll-Ty x) ∙ ap (λ z. same_layer (tests x) z) (out-roll-Ty x) ∙ (rw is at (layer_itself y)))
 
+-- sameness is equality
 pub same_is_equal : (t u : Ty) → IsTrue (same t u) ↔ (t ≡ u)
 same_is_equal t u = (same_equal t u, λ e. subst (λ z. same t z ≡ true) e (same_itself t))
 
+-- the last of four tests
 and_last : (a b c d : Bool) → (a && (b && (c && d))) ≡ true → d ≡ true
 and_last a b c d h = and_right c d (and_right b (c && d) (and_right a (b && (c && d)) h))
 
+-- the whole of a split is the union of its parts
 pub split_is_packed : (whole left right : Cap) → IsTrue (split_of whole left right) → IsTrue (can_pack left right) → pack_of left right ≡ Some whole
 unfolding split_of pack_of
 split_is_packed whole left right h p =

@@ -8,6 +8,7 @@ use Rattle.enc_modes.specs.Placing.{below, up_to, place_among, holds, stand}
 use Rattle.enc_modes.proofs.Agree.{agree}
 use Rattle.enc_modes.proofs.Sorting.{lt_tells, Ascends, ascends_sorted}
 
+-- what a test tells
 pub le_tells : (a b : ℕ) → ((nat_le a b ≡ true) × (a ≤ b)) ⊎ ((nat_le a b ≡ false) × (b < a))
 le_tells a b = grind (arith, nat_tests)
 
@@ -19,6 +20,7 @@ module _ {B : Type 0} (key : B → ℕ) where
   lower k [] = 0
   lower k (y ∷ ys) = cond (nat_lt (key y) k) (suc (lower k ys)) (lower k ys)
 
+  -- no key is lower than the least
   lower_none : (k n : ℕ) (ys : List B) → k ≤ n → Ascends key n ys → lower k ys ≡ 0
   lower_none k n [] h a = refl
   lower_none k n (y ∷ ys) h a =
@@ -28,15 +30,18 @@ module _ {B : Type 0} (key : B → ℕ) where
         | inr w ↦ rw (w.0) (lower_none k (key y) ys (omega arith) a.1)
       ]
 
+  -- one more in front
   lower_cons : (k : ℕ) (y : B) (xs ys : List B) → lower k xs ≡ lower k ys → lower k (y ∷ xs) ≡ lower k (y ∷ ys)
   lower_cons k y xs ys e = ap (λ z. cond (nat_lt (key y) k) (suc z) z) e
 
+  -- two in front the other way round
   lower_swap : (k : ℕ) (x y : B) (ys : List B) → lower k (y ∷ x ∷ ys) ≡ lower k (x ∷ y ∷ ys)
   lower_swap k x y ys = elim (lt_tells (key x) k) [
     | inl v ↦ elim (lt_tells (key y) k) [ inl w ↦ rw (v.0, w.0) refl | inr w ↦ rw (v.0, w.0) refl ]
     | inr v ↦ elim (lt_tells (key y) k) [ inl w ↦ rw (v.0, w.0) refl | inr w ↦ rw (v.0, w.0) refl ]
   ]
 
+  -- it counts the same wherever x stands
   lower_insert : (k : ℕ) (x : B) (ys : List B) → lower k (insert key x ys) ≡ lower k (x ∷ ys)
   lower_insert k x [] = refl
   lower_insert k x (y ∷ ys) = elim (lt_tells (key y) (key x)) [
@@ -44,6 +49,7 @@ module _ {B : Type 0} (key : B → ℕ) where
     | inr w ↦ rw (w.0) refl
   ]
 
+  -- and in any order
   lower_sorted : (k : ℕ) (ys : List B) → lower k (sorted key ys) ≡ lower k ys
   lower_sorted k [] = refl
   lower_sorted k (y ∷ ys) = lower_insert k y (sorted key ys) ∙ lower_cons k y (sorted key ys) ys (lower_sorted k ys)
@@ -70,6 +76,7 @@ module _ {B : Type 0} (key : B → ℕ) where
     | inr w ↦ rw (w.0) g
   ]
 
+  -- the least key is no higher than another
   key_least : (n : ℕ) (ys : List B) (r : ℕ) (e : B) → Ascends key n ys → slice_get ys r ≡ Some e → n ≤ key e
   key_least n [] r e a g = absurd cc
   key_least n (y ∷ ys) zero e a g = let is : y ≡ e = cc in let k : key y ≡ key e = ap key is in let l : n ≤ key y = a.0 in omega arith
@@ -92,42 +99,53 @@ module _ {B : Type 0} (key : B → ℕ) where
 -- ---- places
 
 module _ {A B : Type 0} (form : A → B) (key : B → ℕ) where
+  -- lower keys in two lists
   pub below_append : (k : ℕ) (xs ys : List A) → below form key k (xs ++ ys) ≡ below form key k xs + below form key k ys
   below_append k [] ys = omega arith
   below_append k (x ∷ xs) ys = let h = below_append k xs ys in elim (lt_tells (key (form x)) k) [ inl w ↦ rw (w.0) (omega arith) | inr w ↦ rw (w.0) h ]
 
+  -- a higher bound has no fewer below
   below_rises : (k m : ℕ) (xs : List A) → k ≤ m → below form key k xs ≤ below form key m xs
   below_rises k m [] h = omega arith
   below_rises k m (x ∷ xs) h = let i = below_rises k m xs h in grind (arith, lt_tells)
 
+  -- up to a key is below a higher one
   up_to_below : (k m : ℕ) (xs : List A) → k < m → up_to form key k xs ≤ below form key m xs
   up_to_below k m [] h = omega arith
   up_to_below k m (x ∷ xs) h = let i = up_to_below k m xs h in grind (arith, lt_tells, le_tells)
 
+  -- below a key is up to it
   below_up_to : (k m : ℕ) (xs : List A) → k ≤ m → below form key k xs ≤ up_to form key m xs
   below_up_to k m [] h = omega arith
   below_up_to k m (x ∷ xs) h = let i = below_up_to k m xs h in grind (arith, lt_tells, le_tells)
 
+  -- counted before or after they are formed
   lower_map : (k : ℕ) (xs : List A) → lower key k (map form xs) ≡ below form key k xs
   lower_map k [] = refl
   lower_map k (x ∷ xs) = ap (λ z. cond (nat_lt (key (form x)) k) (suc z) z) (lower_map k xs)
 
+  -- there are no more than all
   below_within : (k : ℕ) (xs : List A) → below form key k xs ≤ length xs
   below_within k [] = omega arith
   below_within k (x ∷ xs) = let i = below_within k xs in grind (arith, lt_tells)
 
+  -- an element by another name of its index
   at_index : {X : Type 0} (ys : List X) (i j : ℕ) (o : Option X) → i ≡ j → slice_get ys j ≡ o → slice_get ys i ≡ o
   at_index ys i j o e g = ap (slice_get ys) e ∙ g
 
+  -- one more that counts
   up_to_yes : (k : ℕ) (x : A) (xs : List A) → nat_le (key (form x)) k ≡ true → up_to form key k (x ∷ xs) ≡ suc (up_to form key k xs)
   up_to_yes k x xs e = rw e refl
 
+  -- one more that doesn't
   up_to_no : (k : ℕ) (x : A) (xs : List A) → nat_le (key (form x)) k ≡ false → up_to form key k (x ∷ xs) ≡ up_to form key k xs
   up_to_no k x xs e = rw e refl
 
+  -- one more that counts
   below_yes : (k : ℕ) (x : A) (xs : List A) → key (form x) < k → below form key k (x ∷ xs) ≡ suc (below form key k xs)
   below_yes k x xs h = elim (lt_tells (key (form x)) k) [ inl w ↦ rw (w.0) refl | inr w ↦ absurd (omega arith) ]
 
+  -- one more that doesn't
   below_no : (k : ℕ) (x : A) (xs : List A) → k ≤ key (form x) → below form key k (x ∷ xs) ≡ below form key k xs
   below_no k x xs h = elim (lt_tells (key (form x)) k) [ inl w ↦ absurd (omega arith) | inr w ↦ rw (w.0) refl ]
 
@@ -154,6 +172,7 @@ module _ {A B : Type 0} (form : A → B) (key : B → ℕ) where
     split : xs ≡ front ++ x ∷ back
     at : place_among form key front x back ≡ i
 
+  -- a place before that of x
   hit_low : (x : A) (xs : List A) (i : ℕ) → i < below form key (key (form x)) xs → Hit xs i → Hit (x ∷ xs) i
   hit_low x xs i h q =
       let k : ℕ = key (form x) in
@@ -176,6 +195,7 @@ module _ {A B : Type 0} (form : A → B) (key : B → ℕ) where
         }
       ]
 
+  -- a place after that of x
   hit_high : (x : A) (xs : List A) (i : ℕ) → below form key (key (form x)) xs ≤ i → Hit xs i → Hit (x ∷ xs) (suc i)
   hit_high x xs i h q =
       let k : ℕ = key (form x) in
@@ -198,6 +218,7 @@ module _ {A B : Type 0} (form : A → B) (key : B → ℕ) where
             omega arith)
       ]
 
+  -- the place of x
   hit_own : (x : A) (xs : List A) (i : ℕ) → below form key (key (form x)) xs ≡ i → Hit (x ∷ xs) i
   hit_own x xs i e = record { front = []; x = x; back = xs; split = refl; at = omega arith }
 
@@ -222,22 +243,27 @@ module _ {A B : Type 0} (form : A → B) (key : B → ℕ) where
 
 -- ---- a list in order
 
+-- the first of two tests
 pub and_left : (a b : Bool) → (a && b) ≡ true → a ≡ true
 and_left true b e = refl
 and_left false b e = absurd (false≢true e)
 
+-- the second of two tests
 pub and_right : (a b : Bool) → (a && b) ≡ true → b ≡ true
 and_right true b e = e
 and_right false b e = absurd (false≢true e)
 
+-- two tests that hold
 pub and_true : (a b : Bool) → a ≡ true → b ≡ true → (a && b) ≡ true
 and_true a b e f = rw (e, f) refl
 
+-- tests that hold together are one
 pub both_ways : (a b : Bool) → (a ≡ true → b ≡ true) → (b ≡ true → a ≡ true) → a ≡ b
 both_ways true b f g = sym (f refl)
 both_ways false true f g = g refl
 both_ways false false f g = refl
 
+-- lists with the same in each place
 same_places : {A : Type 0} (xs ys : List A) → length xs ≡ length ys → ((i : ℕ) → i < length ys → slice_get xs i ≡ slice_get ys i) → xs ≡ ys
 same_places [] [] l h = refl
 same_places [] (y ∷ ys) l h = absurd (omega arith)
@@ -248,14 +274,17 @@ same_places (x ∷ xs) (y ∷ ys) l h =
     let r : xs ≡ ys = same_places xs ys (omega arith) (λ i b. h (suc i) (omega arith)) in
     cc
 
+-- one more
 length_insert : {B : Type 0} (key : B → ℕ) (x : B) (ys : List B) → length (insert key x ys) ≡ suc (length ys)
 length_insert key x [] = refl
 length_insert key x (y ∷ ys) = elim (lt_tells (key y) (key x)) [ inl w ↦ rw (w.0) (ap suc (length_insert key x ys)) | inr w ↦ rw (w.0) refl ]
 
+-- a sort keeps the length
 length_sorted : {B : Type 0} (key : B → ℕ) (ys : List B) → length (sorted key ys) ≡ length ys
 length_sorted key [] = refl
 length_sorted key (y ∷ ys) = length_insert key y (sorted key ys) ∙ ap suc (length_sorted key ys)
 
+-- so does a map
 length_formed : {A B : Type 0} (form : A → B) (xs : List A) → length (map form xs) ≡ length xs
 length_formed form [] = refl
 length_formed form (x ∷ xs) = ap suc (length_formed form xs)
@@ -266,6 +295,7 @@ pub record Tells {B : Type 0} (same : B → B → Bool) : Type 0 where
   pub itself : (x : B) → same x x ≡ true
 
 module _ {A B : Type 0} (form : A → B) (key : B → ℕ) (same : B → B → Bool) (tells : Tells same) where
+  -- lists that agree are equal
   pub agree_equal : (xs ys : List B) → agree same xs ys ≡ true → xs ≡ ys
   agree_equal [] [] h = refl
   agree_equal (x ∷ xs) (y ∷ ys) h =
@@ -275,10 +305,12 @@ module _ {A B : Type 0} (form : A → B) (key : B → ℕ) (same : B → B → B
   agree_equal [] (y ∷ ys) h = absurd (false≢true h)
   agree_equal (x ∷ xs) [] h = absurd (false≢true h)
 
+  -- each list agrees with itself
   pub agree_itself : (xs : List B) → agree same xs xs ≡ true
   agree_itself [] = refl
   agree_itself (x ∷ xs) = and_true (same x x) (agree same xs xs) (tells.itself x) (agree_itself xs)
 
+  -- what holds is there
   holds_some : (o : Option B) (y : B) → holds same o y ≡ true → o ≡ Some y
   holds_some None y h = absurd (false≢true h)
   holds_some (Some z) y h = ap Some (tells.equal z y h)
@@ -330,6 +362,7 @@ module _ {A B : Type 0} (form : A → B) (key : B → ℕ) (same : B → B → B
       let e : s ≡ sorted key (map form xs) = stands_sorted s xs l (and_right (length s == length xs) (stand form key same s [] xs []) h) in
       rw (← e) (agree_itself s))
 
+-- `&&` of three
 and_assoc : (a b c : Bool) → (a && (b && c)) ≡ ((a && b) && c)
 and_assoc true b c = refl
 and_assoc false b c = refl

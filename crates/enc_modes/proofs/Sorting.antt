@@ -22,10 +22,7 @@ module _ {A : Type 0} (key : A → ℕ) where
   of_key k [] = []
   of_key k (y ∷ ys) = cond (key y == k) (y ∷ of_key k ys) (of_key k ys)
 
-  ascends_lower : (m n : ℕ) (ys : List A) → m ≤ n → Ascends n ys → Ascends m ys
-  ascends_lower m n [] h a = tt
-  ascends_lower m n (y ∷ ys) h a = (let l = a.0 in omega arith, a.1)
-
+  -- an insertion keeps them ascending
   ascends_insert : (n : ℕ) (x : A) (ys : List A) → n ≤ key x → Ascends n ys → Ascends n (insert key x ys)
   ascends_insert n x [] h a = (h, tt)
   ascends_insert n x (y ∷ ys) h a = elim (lt_tells (key y) (key x)) [
@@ -33,19 +30,23 @@ module _ {A : Type 0} (key : A → ℕ) where
     | inr w ↦ rw (w.0) (h, (w.1, a.1))
   ]
 
+  -- what is sorted ascends
   pub ascends_sorted : (xs : List A) → Ascends 0 (sorted key xs)
   ascends_sorted [] = tt
   ascends_sorted (x ∷ xs) = ascends_insert 0 x (sorted key xs) (omega arith) (ascends_sorted xs)
 
+  -- one more in front
   of_key_cons : (k : ℕ) (x : A) (xs ys : List A) → of_key k xs ≡ of_key k ys → of_key k (x ∷ xs) ≡ of_key k (x ∷ ys)
   of_key_cons k x xs ys e = ap (λ z. cond (key x == k) (x ∷ z) z) e
 
+  -- two with different keys, the other way round
   of_key_swap : (k : ℕ) (x y : A) (ys : List A) → key y < key x → of_key k (y ∷ x ∷ ys) ≡ of_key k (x ∷ y ∷ ys)
   of_key_swap k x y ys h = elim (eqb_tells (key x) k) [
     | inl u ↦ elim (eqb_tells (key y) k) [ inl v ↦ absurd (omega arith) | inr v ↦ rw (u.0, v.0) refl ]
     | inr u ↦ rw (u.0) refl
   ]
 
+  -- an insertion changes no order within a key
   of_key_insert : (k : ℕ) (x : A) (ys : List A) → of_key k (insert key x ys) ≡ of_key k (x ∷ ys)
   of_key_insert k x [] = refl
   of_key_insert k x (y ∷ ys) = elim (lt_tells (key y) (key x)) [
@@ -53,10 +54,12 @@ module _ {A : Type 0} (key : A → ℕ) where
     | inr w ↦ rw (w.0) refl
   ]
 
+  -- nor does a sort
   pub of_key_sorted : (k : ℕ) (xs : List A) → of_key k (sorted key xs) ≡ of_key k xs
   of_key_sorted k [] = refl
   of_key_sorted k (x ∷ xs) = of_key_insert k x (sorted key xs) ∙ of_key_cons k x (sorted key xs) xs (of_key_sorted k xs)
 
+  -- none has a key lower than the least
   none_below : (k n : ℕ) (ys : List A) → k < n → Ascends n ys → of_key k ys ≡ []
   none_below k n [] h a = refl
   none_below k n (y ∷ ys) h a =
@@ -66,6 +69,7 @@ module _ {A : Type 0} (key : A → ℕ) where
         | inr w ↦ rw (w.0) (none_below k (key y) ys (omega arith) a.1)
       ]
 
+  -- an element has its own key
   of_own_key : (x : A) (xs : List A) → of_key (key x) (x ∷ xs) ≡ x ∷ of_key (key x) xs
   of_own_key x xs = elim (eqb_tells (key x) (key x)) [ inl w ↦ rw (w.0) refl | inr w ↦ absurd (w.1 refl) ]
 
@@ -83,6 +87,7 @@ module _ {A : Type 0} (key : A → ℕ) where
       let g : of_key (key x) (y ∷ ys) ≡ y ∷ of_key (key x) ys = elim (eqb_tells (key y) (key x)) [ inl w ↦ rw (w.0) refl | inr w ↦ absurd (w.1 (sym h)) ] in
       cc
 
+  -- the same of each key without the first
   rest_same : (x : A) (xs ys : List A) (k : ℕ) → of_key k (x ∷ xs) ≡ of_key k (x ∷ ys) → of_key k xs ≡ of_key k ys
   rest_same x xs ys k e = elim (eqb_tells (key x) k) [
     | inl w ↦ let f = rw (w.0) at e in cc
@@ -119,6 +124,7 @@ filter_ties : {A : Type 0} (key : A → ℕ) (x : A) (xs : List A) → filter (t
 filter_ties key x [] = refl
 filter_ties key x (y ∷ xs) = rw (ties_of_key key x y) (ap (λ z. cond (key y == key x) (y ∷ z) z) (filter_ties key x xs))
 
+-- there is none with the key, or there is one
 some_of_key : {A : Type 0} (key : A → ℕ) (k : ℕ) (xs : List A) → (of_key key k xs ≡ []) ⊎ ((z : A) × (key z ≡ k))
 some_of_key key k [] = inl refl
 some_of_key key k (x ∷ xs) = elim (eqb_tells (key x) k) [ inl w ↦ inr (x, w.1) | inr w ↦ rw (w.0) (some_of_key key k xs) ]

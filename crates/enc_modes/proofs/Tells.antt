@@ -10,6 +10,7 @@ use Rattle.enc_modes.specs.Equality.{same_mode, same_alt, same_group, same_cap}
 use Rattle.enc_modes.proofs.Agree.{group_agrees, cap_agrees}
 use Rattle.enc_modes.proofs.Placing.{Tells, agree_equal, agree_itself, and_left, and_right, and_true}
 
+-- modes that are the same are equal
 mode_equal : (m n : Mode) → same_mode m n ≡ true → m ≡ n
 mode_equal mode.Linear mode.Linear h = refl
 mode_equal mode.Local mode.Local h = refl
@@ -17,33 +18,39 @@ mode_equal mode.Read mode.Read h = refl
 mode_equal mode.Subordinate mode.Subordinate h = refl
 mode_equal _ _ h = absurd (false≢true h)
 
+-- each mode is the same as itself
 mode_itself : (m : Mode) → same_mode m m ≡ true
 mode_itself mode.Linear = refl
 mode_itself mode.Local = refl
 mode_itself mode.Read = refl
 mode_itself mode.Subordinate = refl
 
+-- a trait is its number and its mode
 alt_made : (a b : Alt) → a.number ≡ b.number → a.mode ≡ b.mode → a ≡ b
 alt_made a b n m = ap (λ z. record a { number = z }) n ∙ ap (λ z. record { number = b.number; mode = z }) m
 
+-- traits that are the same are equal
 alt_equal : (a b : Alt) → same_alt a b ≡ true → a ≡ b
 alt_equal a b h =
     let n : a.number ≡ b.number = (Decides-eqb a.number b.number).0 (and_left (a.number == b.number) (same_mode a.mode b.mode) h) in
     let m : a.mode ≡ b.mode = mode_equal a.mode b.mode (and_right (a.number == b.number) (same_mode a.mode b.mode) h) in
     alt_made a b n m
 
+-- the test of traits
 pub alt_tells : Tells same_alt
 alt_tells = record {
   equal = alt_equal;
   itself = λ a. and_true (a.number == a.number) (same_mode a.mode a.mode) (eq-eqb a.number a.number refl) (mode_itself a.mode);
 }
 
+-- the test of groups
 pub group_tells : Tells same_group
 group_tells = record {
   equal = λ g h e. agree_equal (λ x. x) (λ a. a.number) same_alt alt_tells g h (sym (group_agrees g h) ∙ e);
   itself = λ g. group_agrees g g ∙ agree_itself (λ x. x) (λ a. a.number) same_alt alt_tells g;
 }
 
+-- the test of capability types
 pub cap_tells : Tells same_cap
 cap_tells = record {
   equal = λ g h e. agree_equal (λ x. x) (λ _. 0) same_group group_tells g h (sym (cap_agrees g h) ∙ e);
