@@ -34,6 +34,7 @@ in_row-map f (x ∷ xs) = ap (λ z. f x ⨾ z) (in_row-map f xs)
 abbrev form_types : Names → ExprForm → Premises
 form_types names = fold-ExprForm Premises Premises (expr_form names) expr_node
 
+-- an expression by its form
 of_expr : (names : Names) (x : Expr) (f : ExprForm) (p : Premises) → x.form ≡ f → form_types names f ≡ p → expr_types names x ≡ p
 unfolding expr_types
 of_expr names x f p is e = fold_out-Expr Premises Premises (expr_form names) expr_node x ∙ (ap (form_types names) is ∙ e)
@@ -114,6 +115,7 @@ pub types-append : (names : Names) (x : Expr) (a : Expr) (b : Expr) → x.form �
 unfolding expr_types roll-ExprForm denote.Hole.Carrier.roll
 types-append names x a b is = of_expr names x _ _ is (ap (form_types names) (e.rolls-Append a b) ∙ fold-roll-ExprForm Premises Premises (expr_form names) expr_node (ExprForm-F.Append a b))
 
+-- the types in an expression, by its form
 pub ruleset exprs = (types-binary, types-negative, types-not, types-int, types-text, types-true, types-false, types-unit, types-this, types-name, types-parens, types-list, types-null, types-empty, types-nil, types-len, types-is_null, types-at, types-append)
 
 -- ---- statements
@@ -122,6 +124,7 @@ pub ruleset exprs = (types-binary, types-negative, types-not, types-int, types-t
 abbrev act_types : Names → StmtForm → Premises
 act_types names = fold-StmtForm Premises Premises (stmt_form names) stmt_node
 
+-- a statement by its form
 of_stmt : (names : Names) (x : Stmt) (f : StmtForm) (p : Premises) → x.form ≡ f → act_types names f ≡ p → stmt_types names x ≡ p
 unfolding stmt_types
 of_stmt names x f p is e = fold_out-Stmt Premises Premises (stmt_form names) stmt_node x ∙ (ap (act_types names) is ∙ e)
@@ -183,4 +186,5 @@ pub stmt-suspend : (names : Names) (x : Stmt) → x.form ≡ s.Suspend → stmt_
 unfolding stmt_types roll-StmtForm denote.Hole.Carrier.roll
 stmt-suspend names x is = of_stmt names x _ _ is (ap (act_types names) s.rolls-Suspend ∙ fold-roll-StmtForm Premises Premises (stmt_form names) stmt_node StmtForm-F.Suspend)
 
+-- the types in a statement, by its form
 pub ruleset stmts = (stmt-let, stmt-assign, stmt-store, stmt-call, stmt-send, stmt-if, stmt-while, stmt-atomic, stmt-split, stmt-pack, stmt-choose, stmt-return, stmt-print, stmt-suspend)

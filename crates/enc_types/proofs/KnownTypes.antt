@@ -36,6 +36,7 @@ every_there {B = B} f (x ∷ xs) ys e = go (f x) (all_there f xs) (every_there f
     go (Some y) None k r = absurd (cc)
     go (Some y) (Some zs) k r = k zs refl
 
+-- what has a type by itself is a trait or a class
 alone_type : (p : Option (ℕ × Meaning)) (t : Ty) → option_and_then alone_layer p ≡ Some t → is_type p ≡ true
 alone_type None t e = absurd (cc)
 alone_type (Some (k, is.Trait m)) t e = refl
@@ -48,10 +49,12 @@ named_is_type : (names : Names) (x : List ℕ) (t : Ty) → type_named names x �
 unfolding type_named
 named_is_type names x t e = alone_type (found names x) t e
 
+-- where each name of a group has its trait, each is one of a trait
 traits_there : (names : Names) (g : GroupText) (alts : Group) → all_there (λ n. trait_named names n.word) g.names ≡ Some alts → are_traits names g ≡ true
 unfolding are_traits
 traits_there names g alts e = every_there (λ n. trait_named names n.word) g.names alts e
 
+-- a group whose names fit may be written
 group_holds : (names : Names) (many : Bool) (g : GroupText) → names_fit names many g ≡ true → AllHold (group_premises names many g)
 unfolding group_premises
 group_holds names many g e = one e
@@ -101,6 +104,7 @@ named_holds names (g ∷ h ∷ gs) t e = let known = groups_there names (g ∷ h
 abbrev Known : Written → Type 0
 Known w = (t : Ty) → w.ty ≡ Some t → AllHold w.premises
 
+-- what is made of a part that is known is known only where the part holds
 known_made : (f : Ty → Bool) (make : Ty → Option Ty) (w : Written) (s : Span) → Known w → Known (made f make w s)
 known_made f make w s k t e = go w.ty (k) e
   where
@@ -112,6 +116,7 @@ known_made f make w s k t e = go w.ty (k) e
     go None k e = absurd (cc)
     go (Some v) k e = join (k v refl) (one (held (f v) v e))
 
+-- a capability type is known only where its groups may be written
 known_cap : (names : Names) (gs : List GroupText) (s : Span) → Known (cap_written names gs s)
 known_cap names gs s t e = go (named_type names gs) refl e
   where
@@ -123,22 +128,29 @@ known_cap names gs s t e = go (named_type names gs) refl e
     go None q e = absurd (cc)
     go (Some v) q e = join (named_holds names gs v q) (one (held (is_composed v) v e))
 
+-- by induction on the text of the type
 module _ (names : Names) where
+  -- what is written by a form
   abbrev form_written : TypeForm → Span → Written
   form_written = fold-TypeForm (Span → Written) Written (write_form names) write_node
 
+  -- what is written by an outer level is known only where it holds
   abbrev KnownLayer : TypeForm-F TypeForm TypeText → Type 0
   KnownLayer l = (s : Span) → Known (write_form names (map-TypeForm TypeForm TypeText (Span → Written) Written form_written (fold-TypeText (Span → Written) Written (write_form names) write_node) l) s)
 
+  -- the same of a whole type, by its outer level
   known_text : (t : TypeText) → KnownLayer (out-TypeForm t.form) → Known (fold-TypeText (Span → Written) Written (write_form names) write_node t)
   known_text t k = subst Known (sym (fold_out-TypeText (Span → Written) Written (write_form names) write_node t ∙ ap (λ z. z t.span) (fold_out-TypeForm (Span → Written) Written (write_form names) write_node t.form))) (k t.span)
 
+  -- forms of which it is so
   abbrev F : Type 0
   F = (form : TypeForm) × KnownLayer (out-TypeForm form)
 
+  -- types of which it is so
   abbrev E : Type 0
   E = (t : TypeText) × KnownLayer (out-TypeForm t.form)
 
+  -- it is so of a level whose parts are so
   known_form : (y : TypeForm-F F E) → KnownLayer (map-TypeForm F E TypeForm TypeText (λ z. z.0) (λ z. z.0) y)
   known_form TypeForm-F.Int = λ s t e. nothing
   known_form TypeForm-F.Bool = λ s t e. nothing
@@ -150,6 +162,7 @@ module _ (names : Names) where
   known_form (TypeForm-F.Bestowed p) = λ s. known_made _ _ _ s (known_text p.0 p.1)
   known_form (TypeForm-F.Cap gs) = known_cap names gs
 
+  -- it is so of each form
   known_all : (form : TypeForm) → KnownLayer (out-TypeForm form)
   known_all = ind-TypeForm (λ form. KnownLayer (out-TypeForm form)) (λ t. KnownLayer (out-TypeForm t.form))
       (λ x y is. subst KnownLayer (is ∙ sym (out-roll-TypeForm x)) (known_form y))

@@ -23,6 +23,7 @@ use Rattle.enc_types.specs.Written.{Written, written, write_form, write_node, wh
 abbrev written_form : Names → TypeForm → Span → Written
 written_form names = fold-TypeForm (Span → Written) Written (write_form names) write_node
 
+-- what is made of a part that is there
 made-map : (f : Ty → Ty) (o : Option Ty) → option_and_then (λ u. Some (f u)) o ≡ option_map f o
 made-map f None = refl
 made-map f (Some u) = refl
@@ -122,6 +123,7 @@ ty-cap names x gs is = ap (λ z. z.ty) (written-cap names x gs is)
 pub premises-cap : (names : Names) (x : TypeText) (gs : List GroupText) → x.form ≡ f.Cap gs → type_premises names x ≡ each (group_premises names (several gs)) gs ⨾ node x.span ((rule.KSig, if_known is_composed (named_type names gs)) ∷ [])
 premises-cap names x gs is = ap (λ z. z.premises) (written-cap names x gs is)
 
+-- the type of several groups is that of the groups in order
 pub groups-cap : (names : Names) (gs : List GroupText) → type_of_groups names gs ≡ option_map ty.Cap (cap_by (trait_named names) gs)
 groups-cap names gs = go (all_there (λ g. all_there (λ n. trait_named names n.word) g.names) gs)
   where
@@ -131,4 +133,5 @@ groups-cap names gs = go (all_there (λ g. all_there (λ n. trait_named names n.
 
 pub ruleset groups = (groups-cap)
 
+-- what is written, by its form
 pub ruleset types = (ty-int, premises-int, ty-bool, premises-bool, ty-text, premises-text, ty-unit, premises-unit, ty-fut, premises-fut, ty-par, premises-par, ty-list, premises-list, ty-bestowed, premises-bestowed, ty-cap, premises-cap)

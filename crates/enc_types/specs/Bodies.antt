@@ -16,6 +16,7 @@ use Rattle.enc_types.specs.Written.{type_premises}
 abbrev pub in_row : List Premises → Premises
 in_row = each (λ p. p)
 
+-- the types in what an expression says
 abbrev pub expr_form : Names → ExprForm-F Premises Premises → Premises
 expr_form names (ExprForm-F.Binary o a b) = a ⨾ b
 expr_form names (ExprForm-F.Negative a) = a
@@ -37,6 +38,7 @@ expr_form names (ExprForm-F.IsNull a) = a
 expr_form names (ExprForm-F.At a b) = a ⨾ b
 expr_form names (ExprForm-F.Append a b) = a ⨾ b
 
+-- a span has no types
 abbrev pub expr_node : Expr-F Premises Premises → Premises
 expr_node x = x.form
 
@@ -44,6 +46,7 @@ expr_node x = x.form
 unfoldable pub expr_types : Names → Expr → Premises
 expr_types names = fold-Expr Premises Premises (expr_form names) expr_node
 
+-- the types in several expressions
 abbrev pub exprs_types : Names → List Expr → Premises
 exprs_types names = each (expr_types names)
 
@@ -69,10 +72,12 @@ source_types names (s.Prune x) = expr_types names x
 source_types names (s.Extract x) = expr_types names x
 source_types names (s.Bestow x) = expr_types names x
 
+-- the types in a block that may be there
 abbrev pub any_block : Option (List Premises) → Premises
 any_block None = none
 any_block (Some ps) = in_row ps
 
+-- the types in what a statement does
 abbrev pub stmt_form : Names → StmtForm-F Premises Premises → Premises
 stmt_form names (StmtForm-F.Let x y) = source_types names y.form
 stmt_form names (StmtForm-F.Assign x y) = expr_types names y
@@ -89,6 +94,7 @@ stmt_form names (StmtForm-F.Return x) = expr_types names x
 stmt_form names (StmtForm-F.Print xs) = exprs_types names xs
 stmt_form names StmtForm-F.Suspend = none
 
+-- a span has no types
 abbrev pub stmt_node : Stmt-F Premises Premises → Premises
 stmt_node x = x.form
 

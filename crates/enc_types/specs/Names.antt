@@ -17,18 +17,21 @@ use Rattle.enc_types.specs.Words.{place_in, all_there}
 
 -- ---- declarations
 
+-- the name of a declaration
 abbrev pub word_of : Decl → List ℕ
 word_of (Trait d) = d.name.word
 word_of (Class d) = d.name.word
 word_of (Active d) = d.name.word
 word_of (Fun d) = d.name.word
 
+-- the mode that a word says
 abbrev pub mode_by : ModeWord → Mode
 mode_by word.Linear = mode.Linear
 mode_by word.Local = mode.Local
 mode_by word.Read = mode.Read
 mode_by word.Subordinate = mode.Subordinate
 
+-- the trait that the declaration of this number is
 abbrev pub alt_by : ℕ → Option Decl → Option Alt
 alt_by k None = None
 alt_by k (Some (Trait d)) = Some (record { number = k; mode = mode_by d.mode })
@@ -48,6 +51,7 @@ group_of ds g = all_there (λ n. trait_of ds n.word) g.names
 abbrev pub groups_of : List Decl → ClassDecl → Option Cap
 groups_of ds c = option_map in_order (all_there (group_of ds) c.groups)
 
+-- what a declaration stands for among these
 abbrev pub meaning_of : List Decl → Decl → Meaning
 meaning_of ds (Trait d) = is.Trait (mode_by d.mode)
 meaning_of ds (Class d) = is.Class (groups_of ds d)
@@ -60,6 +64,7 @@ names_of ds = map (λ d. record { word = word_of d; is = meaning_of ds d }) ds
 
 -- ---- look-ups
 
+-- what each declaration of a program stands for
 abbrev pub Names : Type 0
 Names = List Named
 
@@ -75,6 +80,7 @@ found_at names k = option_map (λ n. (k, n.is)) (slice_get names k)
 unfoldable pub found : Names → List ℕ → Option (ℕ × Meaning)
 found names x = option_and_then (found_at names) (number_of names x)
 
+-- the trait that a name stands for
 abbrev pub alt_in : ℕ × Meaning → Option Alt
 alt_in (k, is.Trait m) = Some (record { number = k; mode = m })
 alt_in (k, is.Class c) = None

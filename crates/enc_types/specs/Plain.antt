@@ -22,6 +22,7 @@ meaning_by traits (Class d) = is.Class (cap_by traits d.groups)
 meaning_by traits (Active d) = is.Active
 meaning_by traits (Fun d) = is.Fun
 
+-- a declaration by its name, where these are the traits
 abbrev pub named_by : (List ℕ → Option Alt) → Decl → Named
 named_by traits d = record { word = word_of d; is = meaning_by traits d }
 
@@ -32,6 +33,7 @@ plain_meaning (Class d) = is.Class None
 plain_meaning (Active d) = is.Active
 plain_meaning (Fun d) = is.Fun
 
+-- a declaration by its name, apart from the groups of a class
 abbrev pub plain_named : Decl → Named
 plain_named d = record { word = word_of d; is = plain_meaning d }
 

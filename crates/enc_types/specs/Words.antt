@@ -17,6 +17,7 @@ add_one None xs = None
 add_one (Some x) None = None
 add_one (Some x) (Some xs) = Some (x ∷ xs)
 
+-- what is there for each, where something is there for all
 abbrev pub all_there : {A B : Type 0} → (A → Option B) → List A → Option (List B)
 all_there f [] = Some []
 all_there f (x ∷ xs) = add_one (f x) (all_there f xs)

@@ -23,6 +23,7 @@ use Rattle.enc_types.specs.Names.{Names, found, trait_named}
 
 -- ---- names in groups
 
+-- the name is one of a trait
 abbrev pub is_trait : Names → List ℕ → Bool
 is_trait names x = is_some (trait_named names x)
 
@@ -30,6 +31,7 @@ is_trait names x = is_some (trait_named names x)
 unfoldable pub are_traits : Names → GroupText → Bool
 are_traits names g = every (λ n. is_trait names n.word) g.names
 
+-- what was found is a trait or a class
 abbrev pub is_type : Option (ℕ × Meaning) → Bool
 is_type None = false
 is_type (Some (k, is.Trait m)) = true
@@ -41,6 +43,7 @@ is_type (Some (k, is.Fun)) = false
 unfoldable pub are_types : Names → GroupText → Bool
 are_types names g = every (λ n. is_type (found names n.word)) g.names
 
+-- there are several names
 abbrev pub many_names : List Name → Bool
 many_names (x ∷ y ∷ xs) = true
 many_names _ = false
@@ -56,11 +59,13 @@ abbrev pub names_fit : Names → Bool → GroupText → Bool
 names_fit names true g = are_traits names g
 names_fit names false g = are_types names g
 
+-- what is asked of a group, alone or among several names
 unfoldable pub group_premises : Names → Bool → GroupText → Premises
 group_premises names many g = node g.span ((rule.KName, names_fit names many g) ∷ [])
 
 -- ---- the type of names
 
+-- the type that what was found stands for by itself
 abbrev pub alone_layer : ℕ × Meaning → Option Ty
 alone_layer (k, is.Trait m) = Some (ty.Cap ((record { number = k; mode = m } ∷ []) ∷ []))
 alone_layer (k, is.Class c) = option_map ty.Cap c
@@ -75,6 +80,7 @@ type_named names x = option_and_then alone_layer (found names x)
 abbrev pub type_of_groups : Names → List GroupText → Option Ty
 type_of_groups names gs = option_map (λ groups. ty.Cap (in_order groups)) (all_there (λ g. all_there (λ n. trait_named names n.word) g.names) gs)
 
+-- what one group of these names stands for
 abbrev pub only_group : Names → GroupText → List Name → Option Ty
 only_group names g (x ∷ []) = type_named names x.word
 only_group names g xs = type_of_groups names (g ∷ [])
@@ -86,6 +92,7 @@ named_type names gs = type_of_groups names gs
 
 -- ---- what is asked of a type
 
+-- by the outer level
 abbrev composed_layer : Ty-F Ty → Bool
 composed_layer (Ty-F.Cap gs) = composes gs
 composed_layer _ = true
@@ -94,14 +101,17 @@ composed_layer _ = true
 unfoldable pub is_composed : Ty → Bool
 is_composed t = composed_layer (out-Ty t)
 
+-- a trait of the local mode
 abbrev pub local_trait : Alt → Mode → Option Alt
 local_trait a mode.Local = Some a
 local_trait a _ = None
 
+-- the local trait that a capability type is
 abbrev pub local_cap : Cap → Option Alt
 local_cap ((a ∷ []) ∷ []) = local_trait a a.mode
 local_cap _ = None
 
+-- by the outer level
 abbrev local_layer : Ty-F Ty → Option Alt
 local_layer (Ty-F.Cap gs) = local_cap gs
 local_layer _ = None
@@ -110,6 +120,7 @@ local_layer _ = None
 unfoldable pub local_of : Ty → Option Alt
 local_of t = local_layer (out-Ty t)
 
+-- a type, where it holds of it
 abbrev pub only_if : (Ty → Bool) → Ty → Option Ty
 only_if f t = cond (f t) (Some t) None
 
@@ -124,6 +135,7 @@ pub record Written : Type 0 where
   pub ty : Option Ty
   pub premises : Premises
 
+-- a type of which nothing is asked
 abbrev simple : Ty → Written
 simple t = record { ty = Some t; premises = none }
 
@@ -135,6 +147,7 @@ made f make part s = record { ty = option_and_then make (where_it f part.ty); pr
 abbrev pub cap_written : Names → List GroupText → Span → Written
 cap_written names gs s = record { ty = where_it is_composed (named_type names gs); premises = each (group_premises names (several gs)) gs ⨾ node s ((rule.KSig, if_known is_composed (named_type names gs)) ∷ []) }
 
+-- what is written by a form of this span
 abbrev pub write_form : Names → TypeForm-F (Span → Written) Written → Span → Written
 write_form names TypeForm-F.Int s = simple ty.Int
 write_form names TypeForm-F.Bool s = simple ty.Bool
@@ -146,9 +159,11 @@ write_form names (TypeForm-F.List t) s = made is_shareable (λ u. Some (ty.List 
 write_form names (TypeForm-F.Bestowed t) s = made (λ u. is_some (local_of u)) (λ u. option_map ty.Bestowed (local_of u)) t s
 write_form names (TypeForm-F.Cap gs) s = cap_written names gs s
 
+-- a type of its form and span
 abbrev pub write_node : TypeText-F (Span → Written) Written → Written
 write_node t = t.form t.span
 
+-- what is written, by the text of the type
 unfoldable pub written : Names → TypeText → Written
 written names = fold-TypeText (Span → Written) Written (write_form names) write_node
 

@@ -107,7 +107,7 @@ impl Names {
     }
 
     /// The groups in order, or `None` where one of their names is that of no trait.
-    pub fn cap_named(&self, groups: &[GroupText]) -> Result<Option<Cap>, AllocError>
+    pub(crate) fn cap_named(&self, groups: &[GroupText]) -> Result<Option<Cap>, AllocError>
         ensures { IfOk result (λ cap. cap ≡ plain.cap_by (spec.trait_named self.now) groups.now) }
     {
         match self.groups_named(groups)? {
@@ -143,7 +143,7 @@ impl Names {
     }
 
     /// Where the names have their memory.
-    pub fn alloc(&self) -> Global {
+    pub(crate) fn alloc(&self) -> Global {
         self.alloc
     }
 
@@ -185,7 +185,7 @@ impl Names {
     }
 
     /// Whether the first declaration of this name is of a trait or a class.
-    pub fn is_type(&self, name: &str) -> bool
+    pub(crate) fn is_type(&self, name: &str) -> bool
         ensures { result ≡ written.is_type (spec.found self.now name.now) }
     {
         match self.meaning(name) {
@@ -195,8 +195,8 @@ impl Names {
         }
     }
 
-    #[tactic(auto, unfolding(crate::specs::Written::type_named, crate::specs::Names::found))]
     /// The type that a name by itself stands for, or `None` where it stands for none.
+    #[tactic(auto, unfolding(crate::specs::Written::type_named, crate::specs::Names::found))]
     pub fn type_named(&self, name: &str) -> Result<Option<Ty>, AllocError>
         ensures { IfOk result (λ ty. ty ≡ written.type_named self.now name.now) }
     {

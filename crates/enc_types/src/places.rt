@@ -69,8 +69,8 @@ impl Places {
         self.firsts.get(word).copied()
     }
 
-    #[tactic(auto, using(crate::proofs::Finding::places))]
     /// Whether the word is one of them.
+    #[tactic(auto, using(crate::proofs::Finding::places))]
     pub fn has(&self, word: &str) -> bool
         ensures { result ≡ spec.has self.now word.now }
     {
