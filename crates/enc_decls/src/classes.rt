@@ -58,8 +58,8 @@ fn judge_group(alloc: Global, decls: &[Decl], names: &Names, group: &GroupText) 
     demand(Rule::KOr, group.span, shares)
 }
 
-#[tactic(auto, unfolding(enc_types::specs::Names::found))]
 // The groups of the class that the name stands for, as far as they are known.
+#[tactic(auto, unfolding(enc_types::specs::Names::found))]
 fn groups_named<'a>(names: &'a Names, name: &str) -> Option<&'a Cap>
     ensures { option_copied result ≡ spec.groups_named names.now name.now }
 {

@@ -1,6 +1,6 @@
 // Disjunctions of traits.
 ghost use Rattle.std.specs.Prelude.{◌≡◌, ◌++◌, map, flat_map, IfOk, OnOk};
-ghost use Rattle.enc_modes.specs.Modes.{is_sendable};
+ghost use Rattle.enc_modes.specs.Modes as modes;
 ghost use Rattle.enc_premises.specs.Premises.{if_known};
 ghost use Rattle.enc_types.specs.Words.{every};
 ghost use Rattle.enc_types.specs.Written.{type_of};
@@ -8,7 +8,7 @@ ghost use Rattle.enc_decls.specs.Conflicts as spec;
 
 use crate::known::{Entry, are_consistent};
 use enc_ast::{Decl, Field, GroupText, Name, Row};
-use enc_modes::{Alt, Mode, Ty};
+use enc_modes::{Alt, Mode, Ty, is_sendable};
 use enc_types::{Names, Places};
 use std::alloc::{AllocError, Global};
 
@@ -25,12 +25,10 @@ pub fn may_share(
 {
     match group.names.as_slice() {
         [] | [_] => Ok(true),
-        words => alts_share(
-            alloc,
-            decls,
-            names,
-            traits_in(alloc, names, words)?.as_slice(),
-        ),
+        words => {
+            let alts = traits_in(alloc, names, words)?;
+            alts_share(alloc, decls, names, alts.as_slice())
+        }
     }
 }
 
@@ -79,11 +77,11 @@ fn may_leave(decls: &[Decl], names: &Names, alt: Alt) -> Result<bool, AllocError
 }
 
 fn may_be_sent(ty: &Option<Ty>) -> bool
-    ensures { result ≡ if_known is_sendable ty.now }
+    ensures { result ≡ if_known modes.is_sendable ty.now }
 {
     match ty {
         None => true,
-        Some(ty) => enc_modes::is_sendable(ty),
+        Some(ty) => is_sendable(ty),
     }
 }
 
@@ -111,8 +109,8 @@ fn entries(
     Ok(entries)
 }
 
-#[tactic(auto, using(crate::proofs::Firsts::firsts_from))]
 // Adds the fields of a trait, each name once, as it stands first.
+#[tactic(auto, using(crate::proofs::Firsts::firsts_from))]
 fn add_fields(
     alloc: Global,
     names: &Names,

@@ -2,7 +2,7 @@
 ghost use Rattle.std.specs.Prelude.{◌≡◌, []};
 ghost use Rattle.enc_premises.specs.Premises.{each_after};
 ghost use Rattle.enc_premises.specs.Passing.{Passes};
-ghost use Rattle.enc_types.specs.Names.{names_of, word_of, mode_by};
+ghost use Rattle.enc_types.specs.Names as meaning;
 ghost use Rattle.enc_decls.specs.Rules.{table_premises, decl_premises};
 ghost use Rattle.enc_decls.specs.Nodes as spec;
 
@@ -21,7 +21,7 @@ use std::alloc::Global;
 /// memory runs out.
 #[tactic(auto, using(crate::proofs::Passing::passing), unfolding(crate::specs::Rules::table_premises))]
 pub fn judge(alloc: Global, program: &Program, names: &Names) -> Result<(), Fail>
-    requires { names.now ≡ names_of program.now.decls }
+    requires { names.now ≡ meaning.names_of program.now.decls }
     ensures { Passes result (table_premises program.now) }
 {
     let decls = program.decls.as_slice();
@@ -32,7 +32,7 @@ pub fn judge(alloc: Global, program: &Program, names: &Names) -> Result<(), Fail
 
 #[tactic(auto, using(crate::proofs::Loops::afters))]
 fn each_decl(alloc: Global, decls: &[Decl], names: &Names) -> Result<(), Fail>
-    requires { names.now ≡ names_of decls.now }
+    requires { names.now ≡ meaning.names_of decls.now }
     ensures { Passes result (each_after (decl_premises decls.now names.now) [] decls.now) }
 {
     let mut seen = Places::new(alloc);
@@ -46,7 +46,7 @@ fn each_decl(alloc: Global, decls: &[Decl], names: &Names) -> Result<(), Fail>
 }
 
 fn word_of(decl: &Decl) -> &Word
-    ensures { result.now ≡ Rattle.enc_types.specs.Names.word_of decl.now }
+    ensures { result.now ≡ meaning.word_of decl.now }
 {
     match decl {
         Decl::Trait(decl) => &decl.name.word,
@@ -90,7 +90,7 @@ fn judge_trait(alloc: Global, names: &Names, new: bool, decl: &TraitDecl) -> Res
 }
 
 fn mode_by(word: ModeWord) -> Mode
-    ensures { result ≡ Rattle.enc_types.specs.Names.mode_by word }
+    ensures { result ≡ meaning.mode_by word }
 {
     match word {
         ModeWord::Linear => Mode::Linear,

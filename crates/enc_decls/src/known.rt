@@ -45,8 +45,8 @@ impl Known {
     }
 }
 
-#[tactic(auto, using(crate::proofs::Consistent::steps))]
 /// Whether fields of one name have one type, as far as their types are known.
+#[tactic(auto, using(crate::proofs::Consistent::steps))]
 pub fn are_consistent(alloc: Global, entries: &[Entry]) -> Result<bool, AllocError>
     ensures { IfOk result (λ it. it ≡ conflicts.consistent entries.now) }
 {

@@ -2,7 +2,7 @@
 ghost use Rattle.std.specs.Prelude.{◌≡◌, []};
 ghost use Rattle.enc_premises.specs.Premises.{each_after, if_known};
 ghost use Rattle.enc_premises.specs.Passing.{Passes};
-ghost use Rattle.enc_decls.specs.Rules.{member_premises, field_premises, method_premises};
+ghost use Rattle.enc_decls.specs.Rules as rules;
 ghost use Rattle.enc_decls.specs.Nodes as spec;
 
 use crate::routines::{has_distinct_params, routine_types};
@@ -44,7 +44,7 @@ impl Owner {
 
 #[tactic(auto, unfolding(crate::specs::Rules::field_fits))]
 fn field_fits(mode: Mode, ty: &Ty) -> bool
-    ensures { result ≡ Rattle.enc_decls.specs.Rules.field_fits mode ty.now }
+    ensures { result ≡ rules.field_fits mode ty.now }
 {
     match mode {
         Mode::Linear | Mode::Subordinate => goes_along(ty),
@@ -54,7 +54,7 @@ fn field_fits(mode: Mode, ty: &Ty) -> bool
 }
 
 fn goes_along(ty: &Ty) -> bool
-    ensures { result ≡ Rattle.enc_decls.specs.Rules.goes_along ty.now }
+    ensures { result ≡ rules.goes_along ty.now }
 {
     match ty {
         Ty::Cap(cap) => mode_of(cap) != Mode::Local,
@@ -71,7 +71,7 @@ pub fn members(
     fields: &[Field],
     methods: &[Method],
 ) -> Result<(), Fail>
-    ensures { Passes result (member_premises names.now (spec.rule_of owner) (spec.fits_in owner) fields.now methods.now) }
+    ensures { Passes result (rules.member_premises names.now (spec.rule_of owner) (spec.fits_in owner) fields.now methods.now) }
 {
     each_field(alloc, names, owner, fields)?;
     each_method(alloc, names, owner, methods)
@@ -79,7 +79,7 @@ pub fn members(
 
 #[tactic(auto, using(crate::proofs::Loops::afters))]
 fn each_field(alloc: Global, names: &Names, owner: Owner, fields: &[Field]) -> Result<(), Fail>
-    ensures { Passes result (each_after (field_premises names.now (spec.rule_of owner) (spec.fits_in owner)) [] fields.now) }
+    ensures { Passes result (each_after (rules.field_premises names.now (spec.rule_of owner) (spec.fits_in owner)) [] fields.now) }
 {
     let mut seen = Places::new(alloc);
     for field in fields {
@@ -100,7 +100,7 @@ fn judge_field(names: &Names, owner: Owner, new: bool, field: &Field) -> Result<
 
 #[tactic(auto, using(crate::proofs::Loops::afters))]
 fn each_method(alloc: Global, names: &Names, owner: Owner, methods: &[Method]) -> Result<(), Fail>
-    ensures { Passes result (each_after (method_premises names.now (spec.rule_of owner)) [] methods.now) }
+    ensures { Passes result (each_after (rules.method_premises names.now (spec.rule_of owner)) [] methods.now) }
 {
     let mut seen = Places::new(alloc);
     for method in methods {
