@@ -8,7 +8,8 @@ ghost use Rattle.enc_types.specs.Written.{type_premises};
 use crate::Names;
 use enc_ast::{Expr, ExprForm, Fail, Items, SourceForm, Stmt, StmtForm, TypeText};
 
-/// Refuses the first type in a body that breaks a rule.
+/// Refuses the first type in a body that breaks a rule, by that rule and at that part of the type. It
+/// also fails where memory runs out.
 #[cycle(stmt)]
 pub fn body_types(names: &Names, body: &[Stmt]) -> Result<(), Fail>
     ensures { Passes result (spec.body_types names.now body.now) }

@@ -5,7 +5,6 @@ ghost use Rattle.enc_modes.specs.Modes as modes;
 ghost use Rattle.enc_modes.specs.declared.ty.Ty.TheVariants as types;
 ghost use Rattle.enc_premises.specs.Premises.{◌⨾◌, each, if_known, node};
 ghost use Rattle.enc_premises.specs.Passing.{Passes};
-ghost use Rattle.enc_types.specs.Names as names;
 ghost use Rattle.enc_types.specs.Written as spec;
 
 use crate::Names;
@@ -15,7 +14,8 @@ use enc_premises::demand;
 use std::alloc::AllocError;
 
 impl Names {
-    /// The type that is written, where it may be written, and otherwise which rule it breaks first.
+    /// The type that is written, or the first rule that it breaks. The answer is `None` where nothing is
+    /// wrong with the type itself, but the list of a class that it names has a name of no trait.
     #[cycle(written)]
     #[tactic(auto, using(crate::proofs::TypeFolds::types, enc_premises::proofs::Passing::passing))]
     pub fn written(&self, text: &TypeText) -> Result<Option<Ty>, Fail>
@@ -108,7 +108,7 @@ impl Names {
         }
     }
 
-    /// The type that is written, or `None` where it may not be written.
+    /// The type that is written, or `None` where it may not be written or isn't known.
     #[tactic(auto, using(crate::proofs::KnownTypes::refusals))]
     pub fn ty(&self, text: &TypeText) -> Result<Option<Ty>, AllocError>
         ensures { IfOk result (λ ty. ty ≡ spec.type_of self.now text.now) }
