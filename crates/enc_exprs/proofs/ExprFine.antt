@@ -27,14 +27,17 @@ pub record Fine (env : Env) (j : Judged) (u : Use) (t : Ty) (last : Env) : Type 
   pub ty : j.ty env ≡ Some t
   pub after : last ≡ after u env j.name
 
+-- an expression is so where its layer is
 fine_at : (names : Names) (env last : Env) (x : Expr) (u : Use) (t : Ty) → ((s : Span) → Fine env (judge_form names (seen names (layer x)) s) u t last) → Fine env (judged names x) u t last
 fine_at names env last x u t f = subst (λ j. Fine env j u t last) (sym (judged_layer names x)) (let g = f x.span in record { hold = g.hold; ty = g.ty; after = g.after })
 
+-- what is no variable moves none
 after_none : (env : Env) (u : Use) → env ≡ after u env None
 after_none env Copies = refl
 after_none env Consumes = refl
 after_none env Looks = refl
 
+-- an operand whose type is as asked
 operand_fine : (env last : Env) (u : Use) (want : Ty → Bool) (j : Judged) (t : Ty) → Fine env j u t last → want t ≡ true → AllHold (operand env u want j)
 operand_fine env last u want j t f m = join f.hold (one (rw f.ty m))
 
@@ -42,9 +45,11 @@ operand_fine env last u want j t f m = join f.hold (one (rw f.ty m))
 like_fine : (env last : Env) (o : Option Ty) (j : Judged) (t : Ty) → o ≡ Some t → Fine env j Copies t last → AllHold (copied env (like o) j)
 like_fine env last o j t e f = operand_fine env last Copies (like o) j t f (rw e (same_self t))
 
+-- two operands whose types are as asked
 two_fine : (env : Env) (want : Ty → Bool) (a b : Judged) (t : Ty) → Fine env a Copies t env → Fine env b Copies t env → want t ≡ true → AllHold (two env want a b)
 two_fine env want a b t f g p = join (operand_fine env env Copies want a t f p) (operand_fine env env Copies want b t g p)
 
+-- a variable of no linear type may stand in any place
 lets_copy : (u : Use) (mine b : Bool) → b ≡ false → (lets_linear u mine || not b) ≡ true
 lets_copy u mine b e = go (lets_linear u mine)
   where
@@ -53,6 +58,7 @@ lets_copy u mine b e = go (lets_linear u mine)
     go false = ap not e
 
 mutual
+  -- a layer that is well typed
   pub fine : {names : Names} {env last : Env} {l : Layer} {u : Use} {t : Ty} → TypeOf names env l u t last → (s : Span) → Fine env (judge_form names (seen names l) s) u t last
   fine {env = env} {u = u} t.int s = record { hold = nothing; ty = refl; after = after_none env u }
   fine {env = env} {u = u} t.text s = record { hold = nothing; ty = refl; after = after_none env u }
@@ -96,12 +102,15 @@ mutual
       let f = copied_fine d in
       record { hold = join (operand_fine env env Copies is_list (judged names a) (ty.List t') f (rw (list_of t') refl)) (like_fine env env _ (judged names b) t' (rw f.ty (list_of t')) (copied_fine e)); ty = f.ty; after = after_none env u }
 
+  -- an operand that is well typed
   copied_fine : {names : Names} {env : Env} {a : Expr} {t : Ty} → Copied names env a t → Fine env (judged names a) Copies t env
   copied_fine {names = names} {env = env} (t.copied {a = a} {t = t'} d) = fine_at names env env a Copies t' (fine d)
 
+  -- elements that are well typed
   all_fine : {names : Names} {env : Env} {as_ : List Expr} {t : Ty} → AllCopied names env as_ t → (o : Option Ty) → o ≡ Some t → AllHold (each (copied env (like o)) (map (judged names) as_))
   all_fine t.end o e = nothing
   all_fine {names = names} {env = env} (t.more {a = a} {t = t'} d r) o e = join (like_fine env env o (judged names a) t' e (copied_fine d)) (all_fine r o e)
 
+-- an expression that is well typed
 pub expr_fine : (names : Names) (env last : Env) (x : Expr) (u : Use) (t : Ty) → TypeOf names env (layer x) u t last → Fine env (judged names x) u t last
 expr_fine names env last x u t d = fine_at names env last x u t (fine d)

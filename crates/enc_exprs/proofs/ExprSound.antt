@@ -1,14 +1,12 @@
 -- An expression that has no premise that fails is well typed, where the types of its variables and the written ones are known.
-use Rattle.std.proofs.Common.{◌≡◌, ℕ, ℤ, Bool, true, false, not, ◌||◌, ◌&&◌, List, [], ◌∷◌, map, Option, Some, None, refl, sym, ap, ◌∙◌, subst, arith}
+use Rattle.std.proofs.Common.{◌≡◌, ℕ, Bool, true, false, not, ◌||◌, ◌&&◌, List, map, Option, Some, None, refl, sym, ap, ◌∙◌, subst, arith}
 use Rattle.std.specs.Prelude.{is_some, option_map}
 use Rattle.enc_ast.specs.declared.rules.Span.{Span}
 use Rattle.enc_ast.specs.declared.Operator.{Operator}
-use Rattle.enc_ast.specs.declared.TypeText.{TypeText}
 use Rattle.enc_ast.specs.declared.Expr.{Expr}
-use Rattle.enc_ast.specs.declared.ExprForm.{ExprForm, out-ExprForm}
+use Rattle.enc_ast.specs.declared.ExprForm.{ExprForm}
 use Rattle.enc_ast.specs.declared.ExprForm.TheOpen.{ExprForm-F}
-use Rattle.enc_ast.specs.declared.ExprForm.TheViews.{out-roll-ExprForm}
-use Rattle.enc_ast.specs.declared.ExprForm.TheFolds.{map-ExprForm, fold-ExprForm, fold_out-ExprForm, fold_out-Expr, ind-ExprForm}
+use Rattle.enc_ast.specs.declared.ExprForm.TheFolds.{map-ExprForm, fold-ExprForm, fold_out-ExprForm, fold_out-Expr}
 use Rattle.enc_modes.specs.declared.ty.Ty.{Ty}
 use Rattle.enc_modes.specs.declared.ty.Ty.TheVariants as ty
 use Rattle.enc_modes.specs.Modes.{is_linear, is_shareable}
@@ -30,129 +28,28 @@ use Rattle.enc_exprs.proofs.Variables.{Named, variable_known, kept}
 use Rattle.enc_exprs.proofs.Sorts.{int_is, bool_is, list_is}
 use Rattle.enc_ast.specs.declared.Operator.TheVariants as op
 use Rattle.enc_exprs.proofs.Same.{same_is}
+use Rattle.enc_exprs.proofs.Parts.{Built, BuiltAll, operator, negative, negated, int, text, yes, no, unit, this, name, parens, list, null, empty, nil, len, is_null, at, append, end, more, built_form}
 
 -- ---- what is known of the types that are written
 
 -- a layer, with what is known of its parts
 abbrev pub told : Names → Layer → ExprForm-F Bool Bool
-told names (ExprForm-F.Binary o a b) = ExprForm-F.Binary o (knows_types names a) (knows_types names b)
-told names (ExprForm-F.Negative a) = ExprForm-F.Negative (knows_types names a)
-told names (ExprForm-F.Not a) = ExprForm-F.Not (knows_types names a)
-told names (ExprForm-F.Int n) = ExprForm-F.Int n
-told names (ExprForm-F.Text t) = ExprForm-F.Text t
-told names ExprForm-F.True = ExprForm-F.True
-told names ExprForm-F.False = ExprForm-F.False
-told names ExprForm-F.Unit = ExprForm-F.Unit
-told names ExprForm-F.This = ExprForm-F.This
-told names (ExprForm-F.Name x) = ExprForm-F.Name x
-told names (ExprForm-F.Parens a) = ExprForm-F.Parens (knows_types names a)
-told names (ExprForm-F.List as_) = ExprForm-F.List (map (knows_types names) as_)
-told names (ExprForm-F.Null t) = ExprForm-F.Null t
-told names (ExprForm-F.Empty t) = ExprForm-F.Empty t
-told names (ExprForm-F.Nil t) = ExprForm-F.Nil t
-told names (ExprForm-F.Len a) = ExprForm-F.Len (knows_types names a)
-told names (ExprForm-F.IsNull a) = ExprForm-F.IsNull (knows_types names a)
-told names (ExprForm-F.At a b) = ExprForm-F.At (knows_types names a) (knows_types names b)
-told names (ExprForm-F.Append a b) = ExprForm-F.Append (knows_types names a) (knows_types names b)
+told names l = map-ExprForm ExprForm Expr Bool Bool (fold-ExprForm Bool Bool (knows_form names) knows_node) (knows_types names) l
 
-map_told : (names : Names) (l : Layer) → map-ExprForm ExprForm Expr Bool Bool (fold-ExprForm Bool Bool (knows_form names) knows_node) (knows_types names) l ≡ told names l
-map_told names (ExprForm-F.Binary o a b) = refl
-map_told names (ExprForm-F.Negative a) = refl
-map_told names (ExprForm-F.Not a) = refl
-map_told names (ExprForm-F.Int n) = refl
-map_told names (ExprForm-F.Text t) = refl
-map_told names ExprForm-F.True = refl
-map_told names ExprForm-F.False = refl
-map_told names ExprForm-F.Unit = refl
-map_told names ExprForm-F.This = refl
-map_told names (ExprForm-F.Name x) = refl
-map_told names (ExprForm-F.Parens a) = refl
-map_told names (ExprForm-F.List as_) = refl
-map_told names (ExprForm-F.Null t) = refl
-map_told names (ExprForm-F.Empty t) = refl
-map_told names (ExprForm-F.Nil t) = refl
-map_told names (ExprForm-F.Len a) = refl
-map_told names (ExprForm-F.IsNull a) = refl
-map_told names (ExprForm-F.At a b) = refl
-map_told names (ExprForm-F.Append a b) = refl
-
+-- an expression by its layer
 pub knows_layer : (names : Names) (x : Expr) → knows_types names x ≡ knows_form names (told names (layer x))
 unfolding knows_types
-knows_layer names x =
-    fold_out-Expr Bool Bool (knows_form names) knows_node x ∙
-    (fold_out-ExprForm Bool Bool (knows_form names) knows_node x.form ∙ ap (knows_form names) (map_told names (layer x)))
-
--- ---- every expression is built from its parts
-
-mutual
-  pub data Built : Layer → Type 0 where
-    operator : {o : Operator} {a b : Expr} → Built (layer a) → Built (layer b) → Built (ExprForm-F.Binary o a b)
-    negative : {a : Expr} → Built (layer a) → Built (ExprForm-F.Negative a)
-    negated : {a : Expr} → Built (layer a) → Built (ExprForm-F.Not a)
-    int : {n : ℤ} → Built (ExprForm-F.Int n)
-    text : {t : List ℕ} → Built (ExprForm-F.Text t)
-    yes : Built ExprForm-F.True
-    no : Built ExprForm-F.False
-    unit : Built ExprForm-F.Unit
-    this : Built ExprForm-F.This
-    name : {x : List ℕ} → Built (ExprForm-F.Name x)
-    parens : {a : Expr} → Built (layer a) → Built (ExprForm-F.Parens a)
-    list : {as_ : List Expr} → BuiltAll as_ → Built (ExprForm-F.List as_)
-    null : {t : TypeText} → Built (ExprForm-F.Null t)
-    empty : {t : TypeText} → Built (ExprForm-F.Empty t)
-    nil : {t : TypeText} → Built (ExprForm-F.Nil t)
-    len : {a : Expr} → Built (layer a) → Built (ExprForm-F.Len a)
-    is_null : {a : Expr} → Built (layer a) → Built (ExprForm-F.IsNull a)
-    at : {a b : Expr} → Built (layer a) → Built (layer b) → Built (ExprForm-F.At a b)
-    append : {a b : Expr} → Built (layer a) → Built (layer b) → Built (ExprForm-F.Append a b)
-
-  pub data BuiltAll : List Expr → Type 0 where
-    end : BuiltAll []
-    more : {a : Expr} {as_ : List Expr} → Built (layer a) → BuiltAll as_ → BuiltAll (a ∷ as_)
-
-abbrev F : Type 0
-F = (f : ExprForm) × Built (out-ExprForm f)
-
-abbrev E : Type 0
-E = (x : Expr) × Built (layer x)
-
-built_all : (es : List E) → BuiltAll (map (λ z. z.0) es)
-built_all [] = end
-built_all (a ∷ es) = more a.1 (built_all es)
-
-built_layer : (y : ExprForm-F F E) → Built (map-ExprForm F E ExprForm Expr (λ z. z.0) (λ z. z.0) y)
-built_layer (ExprForm-F.Binary o a b) = operator a.1 b.1
-built_layer (ExprForm-F.Negative a) = negative a.1
-built_layer (ExprForm-F.Not a) = negated a.1
-built_layer (ExprForm-F.Int n) = int
-built_layer (ExprForm-F.Text t) = text
-built_layer ExprForm-F.True = yes
-built_layer ExprForm-F.False = no
-built_layer ExprForm-F.Unit = unit
-built_layer ExprForm-F.This = this
-built_layer (ExprForm-F.Name x) = name
-built_layer (ExprForm-F.Parens a) = parens a.1
-built_layer (ExprForm-F.List es) = list (built_all es)
-built_layer (ExprForm-F.Null t) = null
-built_layer (ExprForm-F.Empty t) = empty
-built_layer (ExprForm-F.Nil t) = nil
-built_layer (ExprForm-F.Len a) = len a.1
-built_layer (ExprForm-F.IsNull a) = is_null a.1
-built_layer (ExprForm-F.At a b) = at a.1 b.1
-built_layer (ExprForm-F.Append a b) = append a.1 b.1
-
-pub built_form : (f : ExprForm) → Built (out-ExprForm f)
-built_form = ind-ExprForm (λ f. Built (out-ExprForm f)) (λ e. Built (out-ExprForm e.form))
-    (λ x y is. subst Built (is ∙ sym (out-roll-ExprForm x)) (built_layer y))
-    (λ x y is. subst (λ z. Built (out-ExprForm z.form)) is y.form.1)
+knows_layer names x = fold_out-Expr Bool Bool (knows_form names) knows_node x ∙ fold_out-ExprForm Bool Bool (knows_form names) knows_node x.form
 
 -- ---- what holds of what has no premise that fails
 
+-- How an expression of which no premise fails is well typed.
 pub record Sound (names : Names) (env : Env) (l : Layer) (j : Judged) (u : Use) : Type 0 where
   pub t : Ty
   pub typed : TypeOf names env l u t (after u env j.name)
   pub ty : j.ty env ≡ Some t
 
+-- an expression is well typed where its layer is
 sound_at : (names : Names) (env : Env) (x : Expr) (u : Use) → ((s : Span) → AllHold ((judge_form names (seen names (layer x)) s).premises env u) → Sound names env (layer x) (judge_form names (seen names (layer x)) s) u) → AllHold ((judged names x).premises env u) → Sound names env (layer x) (judged names x) u
 sound_at names env x u f h =
     let g = f x.span (subst (λ (j : Judged). AllHold (j.premises env u)) (judged_layer names x) h) in
@@ -164,14 +61,17 @@ unmoved env Copies d = d
 unmoved env Consumes d = d
 unmoved env Looks d = d
 
+-- what isn't false
 flip : (b : Bool) → not b ≡ true → b ≡ false
 flip true e = absurd (grind arith)
 flip false e = refl
 
+-- `&&`, taken apart
 both_true : (a b : Bool) → (a && b) ≡ true → (a ≡ true) × (b ≡ true)
 both_true true b e = (refl, e)
 both_true false b e = absurd (grind arith)
 
+-- a variable whose premises hold
 name_typed : (names : Names) (env : Env) (u : Use) (x : List ℕ) (n : Named env u false x) → TypeOf names env (ExprForm-F.Name x) u n.t (after u env (Some x))
 name_typed names env u x n = go u (is_linear n.t) refl n.copy
   where
@@ -184,6 +84,7 @@ name_typed names env u x n = go u (is_linear n.t) refl n.copy
     go Consumes true e c = t.move n.usable e
     go Looks true e c = t.look n.usable e
 
+-- the object itself, where its premises hold
 this_typed : (names : Names) (env : Env) (u : Use) (n : Named env u true this_word) → TypeOf names env ExprForm-F.This u n.t (after u env (Some this_word))
 this_typed names env u n = go u (is_linear n.t) refl n.copy
   where
@@ -206,6 +107,7 @@ record Part (names : Names) (env : Env) (a : Expr) : Type 0 where
 as_type : {names : Names} {env : Env} {a : Expr} (p : Part names env a) (u : Ty) → p.t ≡ u → Copied names env a u
 as_type {names} {env} {a} p u is = subst (λ z. Copied names env a z) is p.typed
 
+-- what was asked of an operand holds of its type
 asked : {names : Names} {env : Env} {a : Expr} (p : Part names env a) (want : Ty → Bool) → if_known want ((judged names a).ty env) ≡ true → want p.t ≡ true
 asked p want m = rw p.ty at m
 
@@ -221,6 +123,7 @@ record Held (env : Env) (j : Judged) (want : Ty → Bool) : Type 0 where
   hold : AllHold (j.premises env Copies)
   meets : if_known want (j.ty env) ≡ true
 
+-- the premises of an operand, taken apart
 held : {env : Env} {want : Ty → Bool} {j : Judged} → AllHold (copied env want j) → Held env j want
 held (join h (one m)) = record { hold = h; meets = m }
 
@@ -231,6 +134,7 @@ data Sides (env : Env) (a b : Judged) (o : Operator) : Type 0 where
   equality : is_equality o ≡ true → binary_type o ≡ ty.Bool → Held env a is_plain → Held env b (like (a.ty env)) → Sides env a b o
   logical : is_logical o ≡ true → binary_type o ≡ ty.Bool → Held env a is_bool → Held env b is_bool → Sides env a b o
 
+-- the premises of an operator, taken apart
 sides : (env : Env) (a b : Judged) (o : Operator) → AllHold (binary o env a b) → Sides env a b o
 sides env a b op.Or (join h i) = logical refl refl (held h) (held i)
 sides env a b op.And (join h i) = logical refl refl (held h) (held i)
@@ -250,9 +154,11 @@ sides env a b op.Remainder (join h i) = arithmetic refl refl (held h) (held i)
 abbrev ToPart : Names → Env → Expr → Type 0
 ToPart names env a = AllHold ((judged names a).premises env Copies) → Part names env a
 
+-- an operand that is to be an integer
 as_int : {names : Names} {env : Env} {a : Expr} → ToPart names env a → Held env (judged names a) is_int → Copied names env a ty.Int
 as_int f h = let p = f h.hold in as_type p ty.Int (int_is p.t (asked p is_int h.meets))
 
+-- an operand that is to be a truth value
 as_bool : {names : Names} {env : Env} {a : Expr} → ToPart names env a → Held env (judged names a) is_bool → Copied names env a ty.Bool
 as_bool f h = let p = f h.hold in as_type p ty.Bool (bool_is p.t (asked p is_bool h.meets))
 
@@ -263,6 +169,7 @@ as_like o t e f h =
     let m : like o p.t ≡ true = asked p (like o) h.meets in
     as_type p t (sym (same_is t p.t (rw e at m)))
 
+-- an operator between operands that are well typed
 binary_sound : (names : Names) (env : Env) (u : Use) (s : Span) (o : Operator) (a b : Expr) → ToPart names env a → ToPart names env b → Sides env (judged names a) (judged names b) o → Sound names env (ExprForm-F.Binary o a b) (judge_form names (seen names (ExprForm-F.Binary o a b)) s) u
 binary_sound names env u s o a b f g (arithmetic k is h i) = record { t = ty.Int; typed = unmoved env u (t.arithmetic k (as_int f h) (as_int g i)); ty = ap Some is }
 binary_sound names env u s o a b f g (ordering k is h i) = record { t = ty.Bool; typed = unmoved env u (t.ordering k (as_int f h) (as_int g i)); ty = ap Some is }
@@ -277,13 +184,16 @@ binary_sound names env u s o a b f g (logical k is h i) = record { t = ty.Bool; 
 abbrev Tells : Names → Env → Use → Layer → Type 0
 Tells names env u l = knows_form names (told names l) ≡ true → (s : Span) → AllHold ((judge_form names (seen names l) s).premises env u) → Sound names env l (judge_form names (seen names l) s) u
 
+-- an expression whose layer is told to be well typed
 sound_expr : (names : Names) (env : Env) (x : Expr) (u : Use) → Tells names env u (layer x) → knows_types names x ≡ true → AllHold ((judged names x).premises env u) → Sound names env (layer x) (judged names x) u
 sound_expr names env x u f w h = sound_at names env x u (f (sym (knows_layer names x) ∙ w)) h
 
+-- an operand whose layer is told to be well typed
 part : (names : Names) (env : Env) (a : Expr) → Tells names env Copies (layer a) → knows_types names a ≡ true → ToPart names env a
 part names env a f w h = let g = sound_expr names env a Copies f w h in record { t = g.t; typed = t.copied g.typed; ty = g.ty }
 
 mutual
+  -- a layer whose premises hold
   pub sound : {l : Layer} → Built l → (names : Names) (env : Env) → Knows env → (u : Use) → Tells names env u l
   sound (operator {o} {a} {b} d e) names env k u w s h =
       let v = both_true (knows_types names a) (knows_types names b) w in
@@ -327,11 +237,13 @@ mutual
       let c = as_like (items ((judged names a).ty env)) i.item (rw p.ty i.has) (part names env b (sound e names env k Copies) v.1) (held g) in
       record { t = ty.List i.item; typed = unmoved env u (t.append (as_type p (ty.List i.item) i.is) c); ty = p.ty ∙ ap Some i.is }
 
+  -- elements whose premises hold
   all_sound : {as_ : List Expr} → BuiltAll as_ → (names : Names) (env : Env) → Knows env → all_true (map (knows_types names) as_) ≡ true → (o : Option Ty) (t' : Ty) → o ≡ Some t' → AllHold (each (copied env (like o)) (map (judged names) as_)) → AllCopied names env as_ t'
   all_sound end names env k w o t' e h = t.end
   all_sound (more {a} {as_} d r) names env k w o t' e (join h i) =
       let v = both_true (knows_types names a) (all_true (map (knows_types names) as_)) w in
       t.more (as_like o t' e (part names env a (sound d names env k Copies) v.0) (held h)) (all_sound r names env k v.1 o t' e i)
 
+-- an expression whose premises hold is well typed
 pub expr_sound : (names : Names) (env : Env) (x : Expr) (u : Use) → Knows env → knows_types names x ≡ true → AllHold ((judged names x).premises env u) → Sound names env (layer x) (judged names x) u
 expr_sound names env x u k w h = sound_expr names env x u (sound (built_form x.form) names env k u) w h

@@ -1,8 +1,11 @@
 pub mod Meaning
+pub mod Knowing
 pub mod Variables
 pub mod Memory
 pub mod Elements
 pub mod Sorts
 pub mod Same
+pub mod Parts
 pub mod ExprFine
 pub mod ExprSound
+pub mod WrittenTypes

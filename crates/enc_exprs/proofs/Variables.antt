@@ -11,8 +11,10 @@ use Rattle.enc_exprs.specs.declared.uses.Use.{Use}
 use Rattle.enc_exprs.specs.declared.uses.Use.TheVariants.{Copies, Consumes, Looks}
 use Rattle.enc_exprs.specs.Uses.{lets_linear, variable, lends, taken_at}
 use Rattle.enc_exprs.specs.Exprs.{after}
-use Rattle.enc_exprs.specs.Known.{Knows, end, more}
+use Rattle.enc_exprs.specs.Known.{Knows}
+use Rattle.enc_exprs.proofs.Knowing.{knows_find}
 
+-- there is a variable at each number below their count
 there : (env : Env) (i : ℕ) → i < length env → is_some (slice_get env i) ≡ true
 there [] i h = absurd (omega arith)
 there (v ∷ vs) zero h = refl
@@ -23,15 +25,18 @@ pub found : (env : Env) (n : Option ℕ) → IfSome n (λ i. i < length env) →
 found env None h = refl
 found env (Some i) h = there env i h
 
+-- look-ups by number
 pub ruleset variables = (found)
 
 -- ---- what can be used
 
+-- A variable that can be used, with its type.
 pub record Usable (o : Option Var) (t : Ty) : Type 0 where
   pub there : is_some o ≡ true
   pub unmoved : not (moved_of o) ≡ true
   pub ty : ty_of o ≡ Some t
 
+-- a variable that can be used is there, and wasn't moved
 pub usable_at : (o : Option Var) (t : Ty) → usable_of o ≡ Some t → Usable o t
 usable_at None t h = absurd (grind arith)
 usable_at (Some v) t h = go v.moved refl h
@@ -40,6 +45,7 @@ usable_at (Some v) t h = go v.moved refl h
     go true e h = absurd (grind arith)
     go false e h = record { there = refl; unmoved = ap not e; ty = h }
 
+-- what can be used breaks no rule
 pub variable_fine : (env : Env) (u : Use) (mine : Bool) (x : List ℕ) (s : Span) (t : Ty) → usable env x ≡ Some t → (lets_linear u mine || not (is_linear t)) ≡ true → AllHold (variable env u mine x s)
 unfolding variable
 variable_fine env u mine x s t h l =
@@ -49,6 +55,7 @@ variable_fine env u mine x s t h l =
 
 -- ---- what a place leaves of them
 
+-- a variable of no linear type isn't taken
 taken_none : (env : Env) (n : Option ℕ) (t : Ty) → ty_of (at_number env n) ≡ Some t → is_linear t ≡ false → env ≡ taken_at env n
 taken_none env None t e l = refl
 taken_none env (Some i) t e l = sym (ap (λ z. cond (linear z) (marked_at env i true) env) e ∙ ap (λ z. cond z (marked_at env i true) env) l)
@@ -62,25 +69,14 @@ kept env Looks x t e l = refl
 
 -- ---- variables whose premises hold
 
+-- A variable that may stand in a place, with its type.
 pub record Named (env : Env) (u : Use) (mine : Bool) (x : List ℕ) : Type 0 where
   pub t : Ty
   pub usable : usable env x ≡ Some t
   pub ty : ty_of (find env x) ≡ Some t
   pub copy : (lets_linear u mine || not (is_linear t)) ≡ true
 
-knows_get : {env : Env} → Knows env → (i : ℕ) (v : Var) → slice_get env i ≡ Some v → (t : Ty) × (v.ty ≡ Some t)
-knows_get end i v e = absurd (grind arith)
-knows_get (more {v = w} t p k) zero v e = let q : w ≡ v = grind arith in (t, ap (λ z. z.ty) (sym q) ∙ p)
-knows_get (more {v = w} t p k) (suc i) v e = knows_get k i v e
-
-knows_find : {env : Env} → Knows env → (x : List ℕ) (v : Var) → find env x ≡ Some v → (t : Ty) × (v.ty ≡ Some t)
-unfolding find
-knows_find {env} k x v e = go (number_of env x) e
-  where
-    go : (n : Option ℕ) → at_number env n ≡ Some v → (t : Ty) × (v.ty ≡ Some t)
-    go None e = absurd (grind arith)
-    go (Some i) e = knows_get k i v e
-
+-- what is there, wasn't moved and has a known type can be used
 usable_known : (o : Option Var) → ((v : Var) → o ≡ Some v → (t : Ty) × (v.ty ≡ Some t)) → is_some o ≡ true → not (moved_of o) ≡ true → (t : Ty) × (usable_of o ≡ Some t) × (ty_of o ≡ Some t)
 usable_known None k a b = absurd (grind arith)
 usable_known (Some v) k a b =
@@ -91,6 +87,7 @@ usable_known (Some v) k a b =
     go true e n h = absurd (grind arith)
     go false e n h = rw e h
 
+-- a variable whose premises hold can be used
 pub variable_known : (env : Env) (u : Use) (mine : Bool) (x : List ℕ) (s : Span) → Knows env → AllHold (variable env u mine x s) → Named env u mine x
 unfolding variable
 variable_known env u mine x s k (join (one p) (join (one q) (one r))) =

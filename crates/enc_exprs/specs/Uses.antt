@@ -36,7 +36,7 @@ taken_at env (Some i) = takes env i
 unfoldable pub lends : Env → List ℕ → Env
 lends env x = taken_at env (number_of env x)
 
-abbrev given_at : Env → Option ℕ → Env
+abbrev pub given_at : Env → Option ℕ → Env
 given_at env None = env
 given_at env (Some i) = marked_at env i false
 

@@ -1,12 +1,16 @@
 // What the premises of expressions come to.
-ghost use Rattle.std.specs.Prelude.{◌≡◌, true, Some};
+ghost use Rattle.std.specs.Prelude.{◌≡◌, ℕ, List, Option, Some, true, is_some};
+ghost use Rattle.enc_ast.specs.declared.TypeText.{TypeText};
 ghost use Rattle.enc_ast.specs.declared.Expr.{Expr};
 ghost use Rattle.enc_modes.specs.declared.ty.Ty.{Ty};
 ghost use Rattle.enc_premises.specs.First.{AllHold};
 ghost use Rattle.enc_types.specs.Names.{Names};
-ghost use Rattle.enc_flow.specs.Env.{Env};
+ghost use Rattle.enc_types.specs.Written.{type_of, type_premises};
+ghost use Rattle.enc_types.specs.Bodies.{expr_types};
+ghost use Rattle.enc_flow.specs.Env.{Env, cut, declares, merged};
 ghost use Rattle.enc_exprs.specs.declared.uses.Use.{Use as Place};
-ghost use Rattle.enc_exprs.specs.Exprs.{expr_type, expr_premises, judged, after};
+ghost use Rattle.enc_exprs.specs.Uses.{lends, regains};
+ghost use Rattle.enc_exprs.specs.Exprs.{expr_type, expr_premises, judged, after, consumes};
 ghost use Rattle.enc_exprs.specs.Typing.{IsTyped};
 ghost use Rattle.enc_exprs.specs.Known.{Knows, knows_types};
 
@@ -24,4 +28,22 @@ pub fn typed_holds()
 /// nothing, changes nothing and takes no memory.
 pub fn held_is_typed()
     ensures { (names : Names) (env : Env) (x : Expr) (u : Place) → Knows env → knows_types names x ≡ true → AllHold (expr_premises names env u x) → (t : Ty) × (last : Env) × IsTyped names env x u t last }
+{}
+
+/// Each type that is written in an expression stands for one, where all of them may be written and what
+/// may be written stands for a type. This is a law over the definitions: the call answers nothing, changes
+/// nothing and takes no memory.
+pub fn written_types_are_known()
+    ensures { (names : Names) (x : Expr) → ((text : TypeText) → AllHold (type_premises names text) → is_some (type_of names text) ≡ true) → AllHold (expr_types names x) → knows_types names x ≡ true }
+{}
+
+/// The types of all variables stay known, whatever is moved, given back, declared with its type, merged or
+/// cut. This is a law over the definitions: the call answers nothing, changes nothing and takes no memory.
+pub fn types_stay_known()
+    ensures lent { (env : Env) (word : List ℕ) → Knows env → Knows (lends env word) }
+    ensures regained { (env : Env) (word : List ℕ) → Knows env → Knows (regains env word) }
+    ensures consumed { (env : Env) (word : Option (List ℕ)) → Knows env → Knows (consumes env word) }
+    ensures declared { (env : Env) (word : List ℕ) (t : Ty) → Knows env → Knows (declares env word (Some t)) }
+    ensures merged { (env other : Env) → Knows env → Knows (merged env other) }
+    ensures cut { (env last : Env) → Knows last → Knows (cut env last) }
 {}
