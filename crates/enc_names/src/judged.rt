@@ -5,8 +5,8 @@ ghost use Rattle.enc_decls.specs.Rules.{table_premises};
 ghost use Rattle.enc_names.specs.Members.{tables_of};
 
 use crate::Tables;
-use crate::stand_in::judge;
 use enc_ast::{Fail, Program};
+use enc_decls::judge;
 use enc_types::Names;
 use std::alloc::Global;
 

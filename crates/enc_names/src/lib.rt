@@ -6,7 +6,6 @@ mod judged;
 mod laws;
 mod lookups;
 mod members;
-mod stand_in;
 
 pub use judged::tables;
 pub use laws::{field_exists, method_exists, sent_method_exists, tables_answer};
