@@ -40,6 +40,7 @@ seen_other seen e h (d ∷ es) = go (seen_other seen e h es) (bytes_eq d.0 e.0) 
     go i true k = i ∙ sym (ap (λ z. cond (not z) (d ∷ filter (unseen seen) es) (filter (unseen seen) es)) (k refl))
     go i false k = ap (λ z. cond (unseen seen d) (d ∷ z) z) i
 
+-- those of names that aren't seen yet are the first ones without those that are seen
 after_is : (seen : List (List ℕ)) (es : List Entry) → firsts_after seen es ≡ filter (unseen seen) (firsts es)
 after_is seen [] = refl
 after_is seen (e ∷ es) = go (after_is seen es) (after_is (seen ++ e.0 ∷ []) es) (has seen e.0) refl
@@ -48,9 +49,11 @@ after_is seen (e ∷ es) = go (after_is seen es) (after_is (seen ++ e.0 ∷ []) 
     go i j true h = i ∙ sym (seen_other seen e h (firsts es))
     go i j false h = ap (λ z. e ∷ z) (j ∙ sym (unseen_other seen e (firsts es)))
 
+-- where nothing is seen none is left out
 all_unseen : (es : List Entry) → filter (unseen []) es ≡ es
 all_unseen [] = refl
 all_unseen (e ∷ es) = ap (λ z. e ∷ z) (all_unseen es)
 
+-- from the start on, each name once
 pub firsts_from : (es : List Entry) → firsts_after [] es ≡ firsts es
 firsts_from es = after_is [] es ∙ all_unseen (firsts es)

@@ -8,10 +8,12 @@ use Rattle.enc_premises.specs.Premises.{Premises, premise}
 use Rattle.enc_premises.specs.Passing.{Agrees}
 use Rattle.enc_premises.proofs.Passing.{both, here, later, nothing, over}
 
+-- where memory ran out nothing is known
 pub no_memory : (e : Fail) (c : Premises) → e ≡ fail.Memory → Agrees (Some e) c
 unfolding Agrees
 no_memory e c p = rw p tt
 
+-- how each exit of a node passes on
 pub ruleset passing = (both, here, later, nothing, over, no_memory)
 
 -- a premise that holds

@@ -22,19 +22,23 @@ own_place (v ∷ ws) (suc i) w h e n = go (own_place ws i w (omega arith) e) (by
     go k true n = absurd (grind arith)
     go k false n = ap (option_map suc) (k n)
 
+-- what stands at a place stands there after a map
 mapped_at : {A B : Type 0} (f : A → B) (xs : List A) (i : ℕ) (x : A) → i < length xs → x ≡ slice_index_or xs i x → (slice_get (map f xs) i ≡ Some (f x)) × (f x ≡ slice_index_or (map f xs) i (f x))
 mapped_at f [] i x h e = absurd (omega arith)
 mapped_at f (y ∷ xs) zero x h e = (ap (λ z. Some (f z)) (sym e), ap f e)
 mapped_at f (y ∷ xs) (suc i) x h e = mapped_at f xs i x (omega arith) e
 
+-- those before a place, after a map
 before_mapped : {A B : Type 0} (f : A → B) (xs : List A) (i : ℕ) (x : A) → i < length xs → x ≡ slice_index_or xs i x → (i < length (map f xs)) × (take i (map f xs) ≡ map f (take i xs))
 before_mapped f [] i x h e = absurd (omega arith)
 before_mapped f (y ∷ xs) zero x h e = (omega arith, refl)
 before_mapped f (y ∷ xs) (suc i) x h e = let p = before_mapped f xs i x (omega arith) e in (omega (arith, p.0), ap (λ z. f y ∷ z) p.1)
 
+-- a declaration by its name, with a meaning
 abbrev named : (Decl → Meaning) → Decl → Named
 named g d = record { word = word_of d; is = g d }
 
+-- the names are those of the declarations
 words_named : (g : Decl → Meaning) (ds : List Decl) → map (λ n. n.word) (map (named g) ds) ≡ map word_of ds
 words_named g [] = refl
 words_named g (d ∷ ds) = ap (λ z. word_of d ∷ z) (words_named g ds)
@@ -44,9 +48,11 @@ own_found : (g : Decl → Meaning) (ds : List Decl) (i : ℕ) (d : Decl) → i <
 unfolding found number_of
 own_found g ds i d h e p = rw (words_named g ds, p, (mapped_at (named g) ds i d h e).0) refl
 
+-- a new name is found where its declaration stands
 word_at : (ds : List Decl) (i : ℕ) (d : Decl) → i < length ds → d ≡ slice_index_or ds i d → not (has (map word_of (take i ds)) (word_of d)) ≡ true → place_in (map word_of ds) (word_of d) ≡ Some i
 word_at ds i d h e n = let p = before_mapped word_of ds i d h e in own_place (map word_of ds) i (word_of d) p.0 (mapped_at word_of ds i d h e).1 (ap (λ z. not (has z (word_of d))) p.1 ∙ n)
 
+-- a class whose name is new is found by it
 pub stands : (ds : List Decl) (i : ℕ) (d : Decl) (b : Bool) → i < length ds → d ≡ slice_index_or ds i d → b ≡ has (map word_of (take i ds)) (word_of d) → StandsForItself ds (names_of ds) (not b) d
 unfolding names_of
 stands ds i (Trait d) b h e n = tt

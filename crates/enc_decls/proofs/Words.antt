@@ -11,9 +11,11 @@ abbrev pub fresh : List (List ℕ) → List (List ℕ) → Bool
 fresh seen [] = true
 fresh seen (w ∷ ws) = not (has seen w) && fresh (seen ++ w ∷ []) ws
 
+-- words are compared either way round
 pub eq_comm : (x y : List ℕ) → bytes_eq x y ≡ bytes_eq y x
 eq_comm x y = same_from_decides _ _ (bytes_eq-Decides x y) (Decides-like _ sym sym (bytes_eq-Decides y x))
 
+-- one more word
 pub has_push : (ws : List (List ℕ)) (w x : List ℕ) → has (ws ++ w ∷ []) x ≡ (has ws x || bytes_eq w x)
 has_push [] w x = go (bytes_eq w x)
   where
@@ -38,6 +40,7 @@ new_to_more seen w (v ∷ ws) = rw (has_push seen w v, new_to_more seen w ws, eq
     go false false true d = refl
     go false false false d = refl
 
+-- each is new where none is one of those seen and none repeats
 fresh_is : (seen ws : List (List ℕ)) → fresh seen ws ≡ (every (λ v. not (has seen v)) ws && distinct_words ws)
 fresh_is seen [] = refl
 fresh_is seen (w ∷ ws) = rw (fresh_is (seen ++ w ∷ []) ws, new_to_more seen w ws) (go (has seen w) (every (λ v. not (has seen v)) ws) (has ws w) (distinct_words ws))
