@@ -1,0 +1,99 @@
+// Look-ups in the tables of a program.
+
+use enc_modes::{Alt, Mode, Ty};
+use enc_names::{MethodId, Tables, tables};
+use enc_parse::parse;
+use std::alloc::Global;
+use std::test::Fail;
+
+/// Declarations 0 to 7: four traits, a function, a class of passive objects and two active classes.
+const DECLARATIONS: &str = "linear trait A { n: int; m: A; def up(k: int): bool { } def same(): unit { } }
+linear trait B { def same(): unit { } def down(): A { } }
+local trait L { x: int; def look(): int { } }
+read trait R { def view(): int { } }
+fun twice(k: int): List[int] { return [k, k]; }
+class P = (B or R) and A;
+active class D { kept: P; def put(p: P, k: int): unit { } }
+active class Main { def main(args: List[int]): unit { } }";
+
+fn found(alloc: Global) -> Result<Tables, Fail> {
+    let program = parse(alloc, DECLARATIONS.as_bytes())?;
+    Ok(tables(alloc, &program)?)
+}
+
+#[test]
+fn fields_have_places_and_types(rt: HostRuntime) -> Result<(), Fail> {
+    let tables = found(rt.alloc())?;
+    assert_eq!(rt; tables.field(0, "m"), Some(1));
+    assert_eq!(rt; tables.field(0, "x"), None);
+    assert_eq!(rt; tables.field(2, "x"), Some(0));
+    assert_eq!(rt; tables.field(5, "m"), None);
+    assert!(rt; matches!(tables.field_ty(0, 0), Some(Ty::Int)));
+    assert!(rt; matches!(tables.field_ty(0, 1), Some(Ty::Cap(_))));
+    assert!(rt; tables.field_ty(0, 2).is_none());
+    Ok(())
+}
+
+#[test]
+fn methods_are_found_by_types(rt: HostRuntime) -> Result<(), Fail> {
+    let tables = found(rt.alloc())?;
+    let Some(p) = tables.class("P")? else {
+        panic!(rt; "a class")
+    };
+    let up = MethodId { owner: 0, index: 0 };
+    assert_eq!(rt; tables.method(&p, "up"), Some(up));
+    assert_eq!(rt; tables.method(&p, "down"), Some(MethodId { owner: 1, index: 1 }));
+    assert_eq!(rt; tables.method(&p, "same"), None);
+    assert_eq!(rt; tables.method(&p, "view"), None);
+    assert_eq!(rt; tables.method(&Ty::Actor(6), "put"), Some(MethodId { owner: 6, index: 0 }));
+    assert_eq!(rt; tables.method(&Ty::Int, "up"), None);
+    Ok(())
+}
+
+#[test]
+fn messages_go_to_active_classes_and_bestowed_traits(rt: HostRuntime) -> Result<(), Fail> {
+    let tables = found(rt.alloc())?;
+    let bestowed = Ty::Bestowed(Alt {
+        number: 2,
+        mode: Mode::Local,
+    });
+    let look = MethodId { owner: 2, index: 0 };
+    assert_eq!(rt; tables.sent_method(&bestowed, "look"), Some(look));
+    assert_eq!(rt; tables.method(&bestowed, "look"), None);
+    let put = MethodId { owner: 6, index: 0 };
+    assert_eq!(rt; tables.sent_method(&Ty::Actor(6), "put"), Some(put));
+    Ok(())
+}
+
+#[test]
+fn signatures_have_types(rt: HostRuntime) -> Result<(), Fail> {
+    let tables = found(rt.alloc())?;
+    let Some(put) = tables.signature(MethodId { owner: 6, index: 0 }) else {
+        panic!(rt; "a method")
+    };
+    assert_eq!(rt; put.word.as_str(), "put");
+    let [first, second] = put.params.as_slice() else {
+        panic!(rt; "two parameters")
+    };
+    assert!(rt; matches!(first.ty, Ty::Cap(_)));
+    assert!(rt; matches!(second.ty, Ty::Int));
+    assert!(rt; matches!(put.result, Ty::Unit));
+    assert!(rt; tables.signature(MethodId { owner: 6, index: 1 }).is_none());
+    Ok(())
+}
+
+#[test]
+fn names_are_looked_up(rt: HostRuntime) -> Result<(), Fail> {
+    let tables = found(rt.alloc())?;
+    assert_eq!(rt; tables.function("twice"), Some(4));
+    assert_eq!(rt; tables.function("A"), None);
+    assert!(rt; matches!(tables.class("D")?, Some(Ty::Actor(6))));
+    assert!(rt; tables.class("A")?.is_none());
+    let read = Alt {
+        number: 3,
+        mode: Mode::Read,
+    };
+    assert_eq!(rt; tables.trait_named("R"), Some(read));
+    assert_eq!(rt; tables.trait_named("P"), None);
+    Ok(())
+}

@@ -1,0 +1,43 @@
+// Texts in which a part is marked.
+ghost use Rattle.std.specs.Prelude.{◌≡◌, ◌++◌, IfOk, string_bytes};
+
+use enc_ast::Span;
+use std::alloc::{AllocError, Global};
+
+/// A text without its marks, and where the marked part stands.
+pub struct Marked {
+    pub text: String,
+    pub span: Span,
+}
+
+/// The text of three parts, of which the second was marked, in the midst of a program.
+pub fn joined(
+    alloc: Global,
+    before: &str,
+    inside: &str,
+    after: &str,
+) -> Result<String, AllocError>
+    ensures { IfOk result (λ text. string_bytes text ≡ before.now ++ inside.now ++ after.now) }
+{
+    let mut text = String::from_str(alloc, before)?;
+    text.push_str(inside)?;
+    text.push_str(after)?;
+    Ok(text)
+}
+
+/// The text of a row, whose marked part stands between `«` and `»`, or `None` where a mark is missing.
+pub fn unmarked(alloc: Global, row: &str) -> Result<Option<Marked>, AllocError> {
+    let Some((before, rest)) = row.split_once('«') else {
+        return Ok(None);
+    };
+    let Some((inside, after)) = rest.split_once('»') else {
+        return Ok(None);
+    };
+    let text = joined(alloc, before, inside, after)?;
+    let start = before.len() as u32;
+    let end = start.saturating_add(inside.len() as u32);
+    Ok(Some(Marked {
+        text,
+        span: Span { start, end },
+    }))
+}

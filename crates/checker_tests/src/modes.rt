@@ -1,0 +1,113 @@
+// Types, and what their modes allow.
+
+use enc_modes::{
+    Alt, Cap, Mode, Ty, choose_of, composes, in_order, is_linear, is_sendable, is_shareable, mode_of,
+    pack_of, split_of,
+};
+use enc_ast::Row;
+use std::alloc::{AllocError, Global};
+use std::test::Fail;
+
+fn linear(number: u32) -> Alt {
+    let mode = Mode::Linear;
+    Alt { number, mode }
+}
+
+/// The groups that the text names: a digit is a linear trait, and groups stand between blanks.
+fn cap(alloc: Global, text: &str) -> Result<Cap, AllocError> {
+    let mut groups = Row::new(alloc);
+    for word in text.split(' ') {
+        let mut group = Row::new(alloc);
+        for digit in word.bytes() {
+            group.push(linear(u32::from(digit.saturating_sub(b'0'))))?;
+        }
+        groups.push(group)?;
+    }
+    Ok(groups)
+}
+
+/// A type of one trait.
+fn one(alloc: Global, mode: Mode) -> Result<Ty, AllocError> {
+    let mut group = Row::new(alloc);
+    group.push(Alt { number: 3, mode })?;
+    let mut groups = Row::new(alloc);
+    groups.push(group)?;
+    Ok(Ty::Cap(groups))
+}
+
+#[test]
+fn one_trait_has_its_mode(rt: HostRuntime) -> Result<(), Fail> {
+    for (mode, linear, shareable) in [
+        (Mode::Linear, true, false),
+        (Mode::Local, false, false),
+        (Mode::Read, false, true),
+        (Mode::Subordinate, false, false),
+    ] {
+        let ty = one(rt.alloc(), mode)?;
+        assert_eq!(rt; is_linear(&ty), linear);
+        assert_eq!(rt; is_shareable(&ty), shareable);
+        assert_eq!(rt; is_sendable(&ty), linear || shareable);
+        let Ty::Cap(groups) = ty else {
+            panic!(rt; "a capability type")
+        };
+        assert_eq!(rt; mode_of(&groups), mode);
+    }
+    Ok(())
+}
+
+#[test]
+fn other_types_may_be_shared(rt: HostRuntime) {
+    for ty in [Ty::Int, Ty::Bool, Ty::Text, Ty::Unit, Ty::Actor(1), Ty::Bestowed(linear(1))] {
+        assert!(rt; is_shareable(&ty) && is_sendable(&ty) && !is_linear(&ty));
+    }
+}
+
+#[test]
+fn several_traits_are_linear(rt: HostRuntime) -> Result<(), Fail> {
+    let alloc = rt.alloc();
+    for text in ["12", "1 2", "12 3"] {
+        let groups = cap(alloc, text)?;
+        assert_eq!(rt; mode_of(&groups), Mode::Linear);
+        assert!(rt; composes(alloc, &groups)?);
+    }
+    assert!(rt; !composes(alloc, &cap(alloc, "12 23")?)?);
+    Ok(())
+}
+
+#[test]
+fn groups_are_put_in_order(rt: HostRuntime) -> Result<(), Fail> {
+    let alloc = rt.alloc();
+    let sorted = Ty::Cap(in_order(cap(alloc, "5 42 3")?)?);
+    assert!(rt; sorted.is(&Ty::Cap(cap(alloc, "24 3 5")?)));
+    assert!(rt; !sorted.is(&Ty::Cap(cap(alloc, "42 3 5")?)));
+    assert!(rt; sorted.copy(alloc)?.is(&sorted));
+    Ok(())
+}
+
+#[test]
+fn types_are_split_and_packed(rt: HostRuntime) -> Result<(), Fail> {
+    let alloc = rt.alloc();
+    let whole = cap(alloc, "1 24 3")?;
+    let left = cap(alloc, "1 3")?;
+    let right = cap(alloc, "24")?;
+    assert!(rt; split_of(&whole, &left, &right));
+    assert!(rt; split_of(&whole, &right, &left));
+    assert!(rt; !split_of(&whole, &left, &left));
+    assert!(rt; !split_of(&whole, &whole, &Row::new(alloc)));
+    let Some(packed) = pack_of(alloc, &right, &left)? else {
+        panic!(rt; "packed")
+    };
+    assert!(rt; Ty::Cap(packed).is(&Ty::Cap(whole)));
+    assert!(rt; pack_of(alloc, &left, &cap(alloc, "34")?)?.is_none());
+    Ok(())
+}
+
+#[test]
+fn one_trait_is_chosen(rt: HostRuntime) -> Result<(), Fail> {
+    let alloc = rt.alloc();
+    assert_eq!(rt; choose_of(&cap(alloc, "12")?, 2), Some(linear(2)));
+    assert_eq!(rt; choose_of(&cap(alloc, "12")?, 3), None);
+    assert_eq!(rt; choose_of(&cap(alloc, "1")?, 1), None);
+    assert_eq!(rt; choose_of(&cap(alloc, "12 3")?, 1), None);
+    Ok(())
+}
