@@ -12,7 +12,12 @@ use std::test::Fail;
 const MAIN: &str = " active class Main { def main(args: List[int]): unit { } }";
 
 /// Checks the declarations of a text, which are to be refused by this rule at this place, or accepted.
-fn check(rt: &impl Abort, alloc: Global, text: &str, due: Option<(&str, Span)>) -> Result<(), Fail> {
+fn check(
+    rt: &impl Abort,
+    alloc: Global,
+    text: &str,
+    due: Option<(&str, Span)>,
+) -> Result<(), Fail> {
     let program = parse(alloc, text.as_bytes())?;
     let found = match tables(alloc, &program) {
         Ok(_) => None,
@@ -109,7 +114,8 @@ K-TRAIT linear trait A { } read trait R { «x: A;» }
 K-TRAIT subordinate trait A { } read trait R { «x: A;» }
 K-TRAIT local trait A { } read trait R { «x: A;» }";
 
-const GOOD_TRAITS: &str = "linear trait A { x: S; y: A; z: R; } subordinate trait S { x: A; y: S; } read trait R { x: R; }
+const GOOD_TRAITS: &str =
+    "linear trait A { x: S; y: A; z: R; } subordinate trait S { x: A; y: S; } read trait R { x: R; }
 local trait L { x: L; y: A; z: S; } linear trait A { } subordinate trait S { }
 linear trait A { x: int; def x(): unit { } }
 read trait R { x: int; y: List[text]; z: D; f: Fut[unit]; b: Bestowed[L]; } active class D { } local trait L { }";
@@ -140,14 +146,16 @@ fn classes_are_composed(rt: HostRuntime) -> Result<(), Fail> {
     check_accepted(&rt, rt.alloc(), GOOD_CLASSES, MAIN)
 }
 
-const BAD_DISJUNCTIONS: &str = "K-OR subordinate trait S { } linear trait A { } class C = «(A or S)»;
+const BAD_DISJUNCTIONS: &str =
+    "K-OR subordinate trait S { } linear trait A { } class C = «(A or S)»;
 K-OR linear trait A { } class C = A and «(B or S)»; linear trait B { } subordinate trait S { }
 K-OR local trait L { } local trait A { x: L; } linear trait B { } class C = «(B or A)»;
 K-OR class C = «(A or B)»; linear trait A { x: S; } linear trait B { } subordinate trait S { }
 K-OR linear trait A { x: int; } linear trait B { x: bool; } class C = «(A or B)»;
 K-OR linear trait A { y: int; x: A; } linear trait B { } linear trait D { x: B; } class C = «(A or B or D)»;";
 
-const GOOD_DISJUNCTIONS: &str = "linear trait A { x: int; y: A; } linear trait B { x: int; z: bool; } class C = (A or B);
+const GOOD_DISJUNCTIONS: &str =
+    "linear trait A { x: int; y: A; } linear trait B { x: int; z: bool; } class C = (A or B);
 linear trait A { x: A and B; } linear trait B { x: B and A; } class C = (A or B);
 linear trait A { x: int; } linear trait B { x: bool; } class C = A and B;
 local trait L { } local trait A { x: L; } class C = A;";
@@ -161,7 +169,8 @@ fn traits_of_a_disjunction_share_a_place(rt: HostRuntime) -> Result<(), Fail> {
 const BAD_ACTIVE: &str = "K-ACTIVE active class A { x: int; «x: int;» }
 K-ACTIVE active class A { def m(): unit { } «def m(k: int): unit { }» }";
 
-const GOOD_ACTIVE: &str = "local trait L { } active class A { x: L; m: int; def m(): unit { } def x(): L { } }
+const GOOD_ACTIVE: &str =
+    "local trait L { } active class A { x: L; m: int; def m(): unit { } def x(): L { } }
 active class A { x: int; def m(x: int): unit { } } active class B { x: int; def m(x: int): unit { } }";
 
 #[test]
@@ -188,7 +197,8 @@ K-SIG linear trait A { } «fun f(a: A): int { return 1; }»
 K-SIG local trait A { } «fun f(k: int): A { }»
 K-SIG linear trait A { } fun f(k: int): int { let x = nil[«Fut[A]»]; return k; }";
 
-const GOOD_SIGNATURES: &str = "linear trait B { x: Bestowed[L]; y: Fut[int]; z: List[Fut[text]]; } local trait L { }
+const GOOD_SIGNATURES: &str =
+    "linear trait B { x: Bestowed[L]; y: Fut[int]; z: List[Fut[text]]; } local trait L { }
 linear trait B { x: Bestowed[C]; } local trait L { } class C = L;
 linear trait A { def m(a: int, b: int): unit { } def n(a: int, b: int): unit { } }
 read trait R { } fun f(k: R, d: D, xs: List[R]): Par[R] { } active class D { }

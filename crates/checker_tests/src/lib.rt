@@ -4,6 +4,8 @@
 #[cfg(test)]
 mod declarations;
 #[cfg(test)]
+mod expressions;
+#[cfg(test)]
 mod look_ups;
 pub mod marked;
 #[cfg(test)]

@@ -7,7 +7,8 @@ use std::alloc::Global;
 use std::test::Fail;
 
 /// Declarations 0 to 7: four traits, a function, a class of passive objects and two active classes.
-const DECLARATIONS: &str = "linear trait A { n: int; m: A; def up(k: int): bool { } def same(): unit { } }
+const DECLARATIONS: &str =
+    "linear trait A { n: int; m: A; def up(k: int): bool { } def same(): unit { } }
 linear trait B { def same(): unit { } def down(): A { } }
 local trait L { x: int; def look(): int { } }
 read trait R { def view(): int { } }
@@ -42,10 +43,16 @@ fn methods_are_found_by_types(rt: HostRuntime) -> Result<(), Fail> {
     };
     let up = MethodId { owner: 0, index: 0 };
     assert_eq!(rt; tables.method(&p, "up"), Some(up));
-    assert_eq!(rt; tables.method(&p, "down"), Some(MethodId { owner: 1, index: 1 }));
+    assert_eq!(rt;
+        tables.method(&p, "down"),
+        Some(MethodId { owner: 1, index: 1 })
+    );
     assert_eq!(rt; tables.method(&p, "same"), None);
     assert_eq!(rt; tables.method(&p, "view"), None);
-    assert_eq!(rt; tables.method(&Ty::Actor(6), "put"), Some(MethodId { owner: 6, index: 0 }));
+    assert_eq!(rt;
+        tables.method(&Ty::Actor(6), "put"),
+        Some(MethodId { owner: 6, index: 0 })
+    );
     assert_eq!(rt; tables.method(&Ty::Int, "up"), None);
     Ok(())
 }

@@ -11,12 +11,7 @@ pub struct Marked {
 }
 
 /// The text of three parts, of which the second was marked, in the midst of a program.
-pub fn joined(
-    alloc: Global,
-    before: &str,
-    inside: &str,
-    after: &str,
-) -> Result<String, AllocError>
+pub fn joined(alloc: Global, before: &str, inside: &str, after: &str) -> Result<String, AllocError>
     ensures { IfOk result (λ text. string_bytes text ≡ before.now ++ inside.now ++ after.now) }
 {
     let mut text = String::from_str(alloc, before)?;

@@ -1,10 +1,10 @@
 // Types, and what their modes allow.
 
-use enc_modes::{
-    Alt, Cap, Mode, Ty, choose_of, composes, in_order, is_linear, is_sendable, is_shareable, mode_of,
-    pack_of, split_of,
-};
 use enc_ast::Row;
+use enc_modes::{
+    Alt, Cap, Mode, Ty, choose_of, composes, in_order, is_linear, is_sendable, is_shareable,
+    mode_of, pack_of, split_of,
+};
 use std::alloc::{AllocError, Global};
 use std::test::Fail;
 
@@ -57,7 +57,14 @@ fn one_trait_has_its_mode(rt: HostRuntime) -> Result<(), Fail> {
 
 #[test]
 fn other_types_may_be_shared(rt: HostRuntime) {
-    for ty in [Ty::Int, Ty::Bool, Ty::Text, Ty::Unit, Ty::Actor(1), Ty::Bestowed(linear(1))] {
+    for ty in [
+        Ty::Int,
+        Ty::Bool,
+        Ty::Text,
+        Ty::Unit,
+        Ty::Actor(1),
+        Ty::Bestowed(linear(1)),
+    ] {
         assert!(rt; is_shareable(&ty) && is_sendable(&ty) && !is_linear(&ty));
     }
 }
