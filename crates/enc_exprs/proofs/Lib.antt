@@ -9,3 +9,4 @@ pub mod Parts
 pub mod ExprFine
 pub mod ExprSound
 pub mod WrittenTypes
+pub mod Operand

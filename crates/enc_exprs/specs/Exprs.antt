@@ -45,6 +45,7 @@ two env want a b = copied env want a ⨾ copied env want b
 abbrev pub alike : Env → (Ty → Bool) → Judged → Judged → Premises
 alike env want a b = copied env want a ⨾ copied env (like (a.ty env)) b
 
+-- what an operator asks of its operands
 abbrev pub binary : Operator → Env → Judged → Judged → Premises
 binary op.Or env a b = two env is_bool a b
 binary op.And env a b = two env is_bool a b
@@ -60,6 +61,7 @@ binary op.Multiply env a b = two env is_int a b
 binary op.Divide env a b = two env is_int a b
 binary op.Remainder env a b = two env is_int a b
 
+-- the type of what an operator gives
 abbrev pub binary_type : Operator → Ty
 binary_type op.Or = ty.Bool
 binary_type op.And = ty.Bool
@@ -80,6 +82,7 @@ abbrev pub elements : Env → List Judged → Premises
 elements env [] = none
 elements env (a ∷ as_) = copied env is_shareable a ⨾ each (copied env (like (a.ty env))) as_
 
+-- the type of a list of these elements; without elements it is one of units
 abbrev pub elements_type : Env → List Judged → Option Ty
 elements_type env [] = Some (ty.List ty.Unit)
 elements_type env (a ∷ as_) = option_map ty.List (a.ty env)
@@ -92,6 +95,7 @@ typed names want make t s = record { span = s; name = None; ty = λ env. option_
 abbrev form : Span → (Env → Option Ty) → (Env → Premises) → Judged
 form s t ps = record { span = s; name = None; ty = t; premises = λ env u. ps env }
 
+-- a form that asks nothing and has this type
 abbrev fixed : Span → Ty → Judged
 fixed s t = form s (λ env. Some t) (λ env. none)
 
@@ -117,9 +121,11 @@ judge_form names (ExprForm-F.IsNull a) s = form s (λ env. Some ty.Bool) (λ env
 judge_form names (ExprForm-F.At a b) s = form s (λ env. items (a.ty env)) (λ env. copied env is_list a ⨾ copied env is_int b)
 judge_form names (ExprForm-F.Append a b) s = form s a.ty (λ env. copied env is_list a ⨾ copied env (like (items (a.ty env))) b)
 
+-- an expression, which stands at its span
 abbrev pub judge_node : Expr-F (Span → Judged) Judged → Judged
 judge_node x = record (x.form x.span) { span = x.span }
 
+-- An expression, with its parts as the rules see them.
 unfoldable pub judged : Names → Expr → Judged
 judged names = fold-Expr (Span → Judged) Judged (judge_form names) judge_node
 

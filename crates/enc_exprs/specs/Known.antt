@@ -14,6 +14,7 @@ pub data Knows : Env → Type 0 where
   end : Knows []
   more : {v : Var} {vs : Env} (t : Ty) → v.ty ≡ Some t → Knows vs → Knows (v ∷ vs)
 
+-- each of them is true
 abbrev pub all_true : List Bool → Bool
 all_true [] = true
 all_true (b ∷ bs) = b && all_true bs
@@ -40,6 +41,7 @@ knows_form names (ExprForm-F.IsNull a) = a
 knows_form names (ExprForm-F.At a b) = a && b
 knows_form names (ExprForm-F.Append a b) = a && b
 
+-- an expression, by its form
 abbrev pub knows_node : Expr-F Bool Bool → Bool
 knows_node x = x.form
 

@@ -9,20 +9,25 @@ use Rattle.enc_modes.specs.Modes.{is_shareable}
 use Rattle.enc_exprs.specs.declared.operands.Asked.{Asked}
 use Rattle.enc_exprs.specs.declared.operands.Asked.TheVariants as asked
 
+-- an outer level of integers
 abbrev pub int_layer : Ty-F Ty → Bool
 int_layer Ty-F.Int = true
 int_layer _ = false
 
+-- the type of integers
 unfoldable pub is_int : Ty → Bool
 is_int t = int_layer (out-Ty t)
 
+-- an outer level of truth values
 abbrev pub bool_layer : Ty-F Ty → Bool
 bool_layer Ty-F.Bool = true
 bool_layer _ = false
 
+-- the type of truth values
 unfoldable pub is_bool : Ty → Bool
 is_bool t = bool_layer (out-Ty t)
 
+-- an outer level of what can be compared
 abbrev plain_layer : Ty-F Ty → Bool
 plain_layer Ty-F.Int = true
 plain_layer Ty-F.Bool = true
@@ -33,6 +38,7 @@ plain_layer _ = false
 unfoldable pub is_plain : Ty → Bool
 is_plain t = plain_layer (out-Ty t)
 
+-- an outer level of what can refer to nothing
 abbrev null_layer : Ty-F Ty → Bool
 null_layer (Ty-F.Actor k) = true
 null_layer (Ty-F.Cap gs) = true
@@ -44,6 +50,7 @@ null_layer _ = false
 unfoldable pub can_be_null : Ty → Bool
 can_be_null t = null_layer (out-Ty t)
 
+-- the type of the elements, where the outer level is that of a list
 abbrev pub item_layer : Ty-F Ty → Option Ty
 item_layer (Ty-F.List t) = Some t
 item_layer _ = None
@@ -52,6 +59,7 @@ item_layer _ = None
 unfoldable pub item_of : Ty → Option Ty
 item_of t = item_layer (out-Ty t)
 
+-- a type of lists
 abbrev pub is_list : Ty → Bool
 is_list t = is_some (item_of t)
 
@@ -66,6 +74,7 @@ like (Some t) u = same t u
 
 -- ---- what a form asks of an operand
 
+-- whether a type is as asked
 abbrev pub asks : Asked → Ty → Bool
 asks asked.Int = is_int
 asks asked.Bool = is_bool
@@ -76,6 +85,7 @@ asks asked.Null = can_be_null
 
 -- ---- operators
 
+-- operators that compute numbers
 abbrev pub is_arithmetic : Operator → Bool
 is_arithmetic op.Add = true
 is_arithmetic op.Subtract = true
@@ -84,6 +94,7 @@ is_arithmetic op.Divide = true
 is_arithmetic op.Remainder = true
 is_arithmetic _ = false
 
+-- operators that compare numbers
 abbrev pub is_ordering : Operator → Bool
 is_ordering op.Less = true
 is_ordering op.LessEqual = true
@@ -91,11 +102,13 @@ is_ordering op.Greater = true
 is_ordering op.GreaterEqual = true
 is_ordering _ = false
 
+-- operators that compare values of one type
 abbrev pub is_equality : Operator → Bool
 is_equality op.Equal = true
 is_equality op.NotEqual = true
 is_equality _ = false
 
+-- operators on truth values
 abbrev pub is_logical : Operator → Bool
 is_logical op.Or = true
 is_logical op.And = true

@@ -16,10 +16,11 @@ use Rattle.enc_exprs.specs.declared.uses.Use.TheVariants.{Copies, Consumes, Look
 use Rattle.enc_exprs.specs.Uses.{this_word, lends}
 use Rattle.enc_exprs.specs.Types.{is_plain, can_be_null, is_arithmetic, is_ordering, is_equality, is_logical}
 
+-- the form of an expression, whose parts are expressions
 abbrev pub Layer : Type 0
 Layer = ExprForm-F ExprForm Expr
 
--- the form of an expression, with its parts
+-- the form of this expression
 abbrev pub layer : Expr → Layer
 layer x = out-ExprForm x.form
 

@@ -28,6 +28,7 @@ variable env u mine x s = node s (
 unfoldable pub visible : Env → List ℕ → Span → Premises
 visible env x s = node s ((rule.EVar, is_some (find env x)) ∷ [])
 
+-- the variable with this number is taken, where there is one
 abbrev pub taken_at : Env → Option ℕ → Env
 taken_at env None = env
 taken_at env (Some i) = takes env i
@@ -36,6 +37,7 @@ taken_at env (Some i) = takes env i
 unfoldable pub lends : Env → List ℕ → Env
 lends env x = taken_at env (number_of env x)
 
+-- the variable with this number can be used again, where there is one
 abbrev pub given_at : Env → Option ℕ → Env
 given_at env None = env
 given_at env (Some i) = marked_at env i false

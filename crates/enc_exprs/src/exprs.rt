@@ -1,14 +1,16 @@
 // The types of expressions.
-ghost use Rattle.std.specs.Prelude.{◌≡◌, ℕ, List, Some, IfOk, OnOk, OnErr};
-ghost use Rattle.enc_ast.specs.declared.rules.Span.{Span as Place};
+ghost use Rattle.std.specs.Prelude.{◌≡◌, Some, true, IfOk, OnOk, OnErr};
+ghost use Rattle.enc_modes.specs.declared.ty.Ty.{Ty as Value};
 ghost use Rattle.enc_modes.specs.declared.ty.Ty.TheVariants as ty;
-ghost use Rattle.enc_premises.specs.Passing.{Passes};
+ghost use Rattle.enc_premises.specs.Passing.{Passes, Tells, MemoryOnly};
 ghost use Rattle.enc_flow.specs.Env.{find, ty_of};
 ghost use Rattle.enc_types.specs.Names.{Names as Table};
-ghost use Rattle.enc_exprs.specs.declared.uses.Use.TheVariants.{Consumes, Looks};
+ghost use Rattle.enc_exprs.specs.declared.uses.Use.TheVariants.{Copies, Consumes, Looks};
 ghost use Rattle.enc_exprs.specs.Types.{can_be_null, is_bool, is_int, is_list};
 ghost use Rattle.enc_exprs.specs.Uses.{variable as variable_premises};
 ghost use Rattle.enc_exprs.specs.Exprs as spec;
+ghost use Rattle.enc_exprs.specs.Typing.{IsTyped};
+ghost use Rattle.enc_exprs.specs.Known.{Knows, knows_types};
 
 use crate::lists::{append, at, list};
 use crate::nothing::{empty, nil, written};
@@ -21,7 +23,8 @@ use enc_types::Names;
 use std::alloc::Global;
 
 /// The type of an expression in a place, or `None` where no premise fails and it isn't known. It refuses
-/// by the first premise that fails, in the order of the text.
+/// by the first premise that fails, in the order of the text. The types that it makes and copies take
+/// memory: where that runs out, it answers `Fail::Memory`.
 #[cycle(expr)]
 #[tactic(auto, using(crate::proofs::Meaning::exprs))]
 pub fn expr_type(
@@ -132,7 +135,7 @@ pub fn consume(env: &mut Env, expr: &Expr)
 }
 
 /// The type of an expression in a consuming place, as `expr_type` tells it, and the variables after it.
-/// Where it refuses, and where memory runs out, the variables stay as they were.
+/// It fails as `expr_type` does, and then the variables stay as they were.
 pub fn consumed(
     alloc: Global,
     names: &Names,
@@ -147,4 +150,20 @@ pub fn consumed(
     let ty = expr_type(alloc, names, env, expr, Use::Consumes)?;
     consume(env, expr);
     Ok(ty)
+}
+
+/// The type of an expression in a copying place. The types of all variables are to be known, and each type
+/// that is written in the expression is to stand for one. It answers a type exactly where the expression
+/// is well typed, and otherwise refuses by the first premise that fails; where memory runs out, it answers
+/// `Fail::Memory`.
+#[tactic(auto, using(enc_premises::proofs::Telling::tells, crate::proofs::Operand::typed))]
+pub fn typed(alloc: Global, names: &Names, env: &Env, expr: &Expr) -> Result<Ty, Fail>
+    requires variables { Knows env.now }
+    requires written { knows_types names.now expr.now ≡ true }
+    ensures ok { IfOk result (λ t. IsTyped names.now env.now expr.now Copies t env.now) }
+    ensures tells { Tells result (spec.expr_premises names.now env.now Copies expr.now) }
+    ensures accepts { (t : Value) → IsTyped names.now env.now expr.now Copies t env.now → MemoryOnly result }
+{
+    let ty = expr_type(alloc, names, env, expr, Use::Copies)?;
+    Ok(ty.unwrap())
 }
