@@ -1,0 +1,15 @@
+//! The rules of statements, of bodies and of programs.
+#![tactic(auto)]
+
+mod checking;
+mod parting;
+mod plain;
+mod returning;
+mod routines;
+mod stmts;
+mod variables;
+
+pub use routines::{bodies, routine};
+pub use checking::judge;
+pub use returning::last_returns;
+pub use stmts::{in_order, stmt};
