@@ -18,7 +18,7 @@ use enc_exprs::{Use, expr_type, is_bool, is_plain, regain, type_in, visible};
 use enc_flow::Env;
 use enc_modes::Ty;
 use enc_premises::demand;
-use enc_sources::{Context, agree, call, send, source, waits};
+use enc_sources::{Context, Demand, agree, call, send, source, waits};
 use std::alloc::Global;
 
 /// A new variable, bound to what a source gives.
@@ -36,20 +36,18 @@ pub fn bind(
 {
     let free = is_free(env, name);
     let outcome = source(alloc, context, env, form)?;
-    let together = !(context.inside && waits(form));
+    let last = Demand {
+        rule: Rule::SAtomic,
+        holds: !(context.inside && waits(form)),
+    };
     demand(Rule::SLet, span, free)?;
-    ask_three(span, outcome.own, outcome.more, (Rule::SAtomic, together))?;
+    ask_three(span, outcome.own, outcome.more, last)?;
     declare(env, name, outcome.ty)
 }
 
 /// Three demands of one node.
 #[tactic(auto, using(enc_premises::proofs::Passing::passing))]
-fn ask_three(
-    span: Span,
-    own: (Rule, bool),
-    more: (Rule, bool),
-    last: (Rule, bool),
-) -> Result<(), Fail>
+fn ask_three(span: Span, own: Demand, more: Demand, last: Demand) -> Result<(), Fail>
     ensures { Passes result (node span (own ∷ more ∷ last ∷ [])) }
 {
     ask(span, own)?;
@@ -57,11 +55,20 @@ fn ask_three(
     ask(span, last)
 }
 
-fn ask(span: Span, asked: (Rule, bool)) -> Result<(), Fail>
+fn ask(span: Span, asked: Demand) -> Result<(), Fail>
     ensures { Passes result (premise asked.0 span asked.1) }
 {
-    let (rule, holds) = asked;
-    demand(rule, span, holds)
+    demand(asked.rule, span, asked.holds)
+}
+
+/// What may not stand inside an atomic block.
+fn outside(context: &Context<'_>) -> Demand
+    ensures { result ≡ spec.outside context.now }
+{
+    Demand {
+        rule: Rule::SAtomic,
+        holds: !context.inside,
+    }
 }
 
 /// Another value for a variable.
@@ -79,7 +86,7 @@ pub fn assign(
 {
     let word = name.word.as_str();
     visible(env, word, name.span)?;
-    let ty = expr_type(alloc, context.tables.names(), env, value, Use::Consumes)?;
+    let ty = expr_type(alloc, context.names(), env, value, Use::Consumes)?;
     demand(Rule::SAssign, span, agree(type_in(env, word), ty.as_ref()))?;
     use_up(context, env, value);
     regain(env, word);
@@ -101,7 +108,7 @@ pub fn store(
     ensures after { OnOk result (env.new ≡ spec.consumed context.now env.old value.now) }
 {
     visible(env, "this", place)?;
-    let ty = expr_type(alloc, context.tables.names(), env, value, Use::Consumes)?;
+    let ty = expr_type(alloc, context.names(), env, value, Use::Consumes)?;
     demand(Rule::SStore, span, fits_field(context, name, ty.as_ref()))?;
     demand(Rule::SReadonly, span, !context.only_reads())?;
     use_up(context, env, value);
@@ -134,12 +141,7 @@ pub fn call_method(
     ensures after { OnOk result (env.new ≡ (sources.call context.now env.old to.now name.now args.now).after) }
 {
     let outcome = call(alloc, context, env, to, name, args)?;
-    ask_three(
-        span,
-        outcome.own,
-        outcome.more,
-        (Rule::SAtomic, !context.inside),
-    )
+    ask_three(span, outcome.own, outcome.more, outside(context))
 }
 
 /// A message whose result nobody waits for.
@@ -173,7 +175,7 @@ pub fn give_back(
     ensures premises { Passes result (spec.return_premises context.now env.old value.now span) }
     ensures after { OnOk result (env.new ≡ spec.consumed context.now env.old value.now) }
 {
-    let ty = expr_type(alloc, context.tables.names(), env, value, Use::Consumes)?;
+    let ty = expr_type(alloc, context.names(), env, value, Use::Consumes)?;
     suspend(context, span)?;
     demand(Rule::SReturn, span, is_result(context, ty.as_ref()))?;
     use_up(context, env, value);
@@ -193,7 +195,7 @@ fn is_result(context: &Context<'_>, ty: Option<&Ty>) -> bool
 pub fn suspend(context: &Context<'_>, span: Span) -> Result<(), Fail>
     ensures { Passes result (node span (spec.outside context.now ∷ [])) }
 {
-    demand(Rule::SAtomic, span, !context.inside)
+    ask(span, outside(context))
 }
 
 /// Values that are printed.
@@ -239,7 +241,7 @@ fn prints_too(
     ensures premises { Passes result (expr_premises context.now.tables.names env.now Copies value.now) }
     ensures plain { IfOk result (λ plain. plain ≡ (before && spec.prints context.now env.now value.now)) }
 {
-    match expr_type(alloc, context.tables.names(), env, value, Use::Copies)? {
+    match expr_type(alloc, context.names(), env, value, Use::Copies)? {
         None => Ok(before),
         Some(ty) => Ok(before && is_plain(&ty)),
     }
@@ -256,7 +258,7 @@ pub fn condition(
 ) -> Result<(), Fail>
     ensures { Passes result (spec.condition context.now env.now rule value.now) }
 {
-    let ty = expr_type(alloc, context.tables.names(), env, value, Use::Copies)?;
+    let ty = expr_type(alloc, context.names(), env, value, Use::Copies)?;
     let fits = match &ty {
         None => true,
         Some(ty) => is_bool(ty),

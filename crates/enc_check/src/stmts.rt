@@ -182,7 +182,7 @@ fn together(
     ensures premises { Passes result (spec.atomic_premises context.now env.old owner.now (spec.acts body.now) span) }
     ensures after { OnOk result (env.new ≡ spec.block_after (spec.within context.now) env.old env.old (spec.acts body.now)) }
 {
-    let ty = expr_type(alloc, context.tables.names(), env, owner, Use::Copies)?;
+    let ty = expr_type(alloc, context.names(), env, owner, Use::Copies)?;
     block(alloc, &context.within(), env, env.len(), body)?;
     demand(Rule::SAtomic, span, may_own(ty.as_ref()) && !context.inside)
 }
