@@ -214,12 +214,7 @@ pub fn print(
 }
 
 /// Whether each of the values is of a type that can be printed, as far as that is known.
-fn are_plain(
-    alloc: Global,
-    context: &Context<'_>,
-    env: &Env,
-    values: &[Expr],
-) -> Result<bool, Fail>
+fn are_plain(alloc: Global, context: &Context<'_>, env: &Env, values: &[Expr]) -> Result<bool, Fail>
     ensures premises { Passes result (each (expr_premises context.now.tables.names env.now Copies) values.now) }
     ensures plain { IfOk result (λ plain. plain ≡ every (spec.prints context.now env.now) values.now) }
 {

@@ -84,12 +84,7 @@ pub fn routine(
 
 /// The variables at the start of a body: `this`, unless it is one of a function, and the parameters.
 #[tactic(auto, using(crate::proofs::Memory::memory))]
-fn start(
-    alloc: Global,
-    tables: &Tables,
-    owner: Option<u32>,
-    params: &[Param],
-) -> Result<Env, Fail>
+fn start(alloc: Global, tables: &Tables, owner: Option<u32>, params: &[Param]) -> Result<Env, Fail>
     ensures memory { MemoryOnly result }
     ensures start { IfOk result (λ env. env ≡ spec.start tables.now.names owner params.now) }
 {
