@@ -23,7 +23,7 @@ pub record Context : Type 0 where
 
 -- ---- this
 
-abbrev this_layer : ℕ × Meaning → Option Ty
+abbrev pub this_layer : ℕ × Meaning → Option Ty
 this_layer (k, is.Trait m) = Some (ty.Cap ((record { number = k; mode = m } ∷ []) ∷ []))
 this_layer (k, is.Class c) = None
 this_layer (k, is.Active) = Some (ty.Actor k)

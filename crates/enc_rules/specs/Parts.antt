@@ -10,7 +10,7 @@ use Rattle.enc_modes.specs.Order.{Cap}
 use Rattle.enc_modes.specs.Modes.{mode_of, split_of, pack_of, choose_of}
 use Rattle.enc_modes.specs.Equality.{same}
 
-abbrev future_layer : Ty-F Ty → Option Ty
+abbrev pub future_layer : Ty-F Ty → Option Ty
 future_layer (Ty-F.Fut t) = Some t
 future_layer _ = None
 
@@ -18,7 +18,7 @@ future_layer _ = None
 unfoldable pub future_of : Ty → Option Ty
 future_of t = future_layer (out-Ty t)
 
-abbrev tree_layer : Ty-F Ty → Option Ty
+abbrev pub tree_layer : Ty-F Ty → Option Ty
 tree_layer (Ty-F.Par t) = Some t
 tree_layer _ = None
 

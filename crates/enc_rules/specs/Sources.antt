@@ -67,21 +67,21 @@ module _ (ctx : Context) (env : Env) where
   send to m xs = send_of (sent ctx.tables (receiver_type env to) m.word) to xs
 
   -- an operand of whose type a part is taken, and what is made of the part
-  abbrev part : Rule → (Ty → Option Ty) → (Ty → Ty) → Expr → Outcome
+  abbrev pub part : Rule → (Ty → Option Ty) → (Ty → Ty) → Expr → Outcome
   part r of make x = record { parts = expr_premises ctx.tables.names env Copies x; own = (r, if_known (λ t. is_some (of t)) (expr_type ctx.tables.names env x)); more = free; ty = option_map make (option_and_then of (expr_type ctx.tables.names env x)); after = env }
 
   abbrev both_trees : Option Ty → Option Ty → Bool
   both_trees t u = if_known (λ z. is_some (tree_of z)) t && (if_known (λ z. is_some (tree_of z)) u && agree t u)
 
   -- two trees of one type
-  abbrev trees : Expr → Expr → Outcome
+  abbrev pub trees : Expr → Expr → Outcome
   trees x y = record { parts = expr_premises ctx.tables.names env Copies x ⨾ expr_premises ctx.tables.names env Copies y; own = (rule.SPart, both_trees (expr_type ctx.tables.names env x) (expr_type ctx.tables.names env y)); more = free; ty = expr_type ctx.tables.names env x; after = env }
 
   abbrev part_known : (Ty → Option Ty) → Option Ty → Option Ty
   part_known of t = option_and_then of t
 
   -- a function for the part of an operand's type, and what is made of its result
-  abbrev applied_by : Option Signature → Rule → (Ty → Option Ty) → (Ty → Ty) → Expr → List Expr → Outcome
+  abbrev pub applied_by : Option Signature → Rule → (Ty → Option Ty) → (Ty → Ty) → Expr → List Expr → Outcome
   applied_by f r of make x xs = record {
     parts = expr_premises ctx.tables.names env Copies x ⨾ arguments_of ctx.tables.names env (further f) xs;
     own = (r, if_known (λ t. is_some (of t)) (expr_type ctx.tables.names env x) && applies f (length xs) (part_known of (expr_type ctx.tables.names env x)));
@@ -90,17 +90,17 @@ module _ (ctx : Context) (env : Env) where
     after = after_args ctx.tables.names env xs;
   }
 
-  abbrev applied : Rule → (Ty → Option Ty) → (Ty → Ty) → Expr → Name → List Expr → Outcome
+  abbrev pub applied : Rule → (Ty → Option Ty) → (Ty → Ty) → Expr → Name → List Expr → Outcome
   applied r of make x f xs = applied_by (function_of ctx.tables f.word) r of make x xs
 
-  abbrev shared : Ty → Option Ty
+  abbrev pub shared : Ty → Option Ty
   shared t = only_shared (is_shareable t) t
     where
       only_shared : Bool → Ty → Option Ty
       only_shared true t = Some t
       only_shared false t = None
 
-  abbrev bestowed : Ty → Option Ty
+  abbrev pub bestowed : Ty → Option Ty
   bestowed t = option_map ty.Bestowed (local_of t)
 
   -- a source

@@ -1,0 +1,5 @@
+pub mod Parts
+pub mod Acts
+pub mod Marks
+pub mod SourcesDone
+pub mod StmtsDone
