@@ -1,5 +1,5 @@
 -- A statement by its layer.
-use Rattle.std.proofs.Common.{◌≡◌, List, map, Option, Some, None, refl, ap, ◌∙◌}
+use Rattle.std.proofs.Common.{◌≡◌, Some, None, refl, ap, ◌∙◌}
 use Rattle.enc_ast.specs.declared.rules.Span.{Span}
 use Rattle.enc_ast.specs.declared.Stmt.{Stmt}
 use Rattle.enc_ast.specs.declared.StmtForm.{StmtForm, out-StmtForm}

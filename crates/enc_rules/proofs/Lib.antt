@@ -1,5 +1,12 @@
 pub mod Parts
 pub mod Acts
+pub mod Bodies
 pub mod Marks
 pub mod SourcesDone
 pub mod StmtsDone
+pub mod ProgramsDone
+pub mod SourcesSound
+pub mod StmtsSound
+pub mod TypesKnown
+pub mod Classes
+pub mod ProgramsSound

@@ -1,5 +1,5 @@
 -- Types by what they are made of.
-use Rattle.std.proofs.Common.{◌≡◌, Bool, true, false, Option, Some, None, refl, sym, ap, ◌∙◌, arith}
+use Rattle.std.proofs.Common.{◌≡◌, true, Option, Some, None, refl, sym, ap, ◌∙◌, arith}
 use Rattle.std.specs.Prelude.{is_some, option_map, option_and_then}
 use Rattle.enc_modes.specs.declared.ty.Alt.{Alt}
 use Rattle.enc_modes.specs.declared.ty.Ty.{Ty, out-Ty, roll-Ty, roll-out-Ty}

@@ -1,6 +1,6 @@
 -- A source that is well typed has no premise that fails.
-use Rattle.std.proofs.Common.{◌≡◌, ◌==◌, ℕ, suc, Bool, true, false, not, ◌&&◌, ◌||◌, cond, List, [], ◌∷◌, length, map, Option, Some, None, refl, sym, ap, ◌∙◌, subst, arith}
-use Rattle.std.specs.Prelude.{is_some, option_map, option_and_then}
+use Rattle.std.proofs.Common.{◌≡◌, ◌==◌, ℕ, suc, Bool, true, not, ◌&&◌, cond, List, [], length, map, Option, Some, refl, sym, ap, ◌∙◌, subst, arith}
+use Rattle.std.specs.Prelude.{is_some, option_map}
 use Rattle.std.proofs.lemmas.Bool.Decides.{nat_tests}
 use Rattle.enc_ast.specs.declared.rules.Rule.{Rule}
 use Rattle.enc_ast.specs.declared.rules.Rule.TheVariants as rule
@@ -13,25 +13,23 @@ use Rattle.enc_ast.specs.declared.sources.SourceForm.TheVariants as s
 use Rattle.enc_modes.specs.declared.ty.Ty.{Ty}
 use Rattle.enc_modes.specs.declared.ty.Ty.TheVariants as ty
 use Rattle.enc_modes.specs.Equality.{same}
-use Rattle.enc_modes.specs.Modes.{is_linear}
 use Rattle.enc_premises.specs.First.{AllHold, nothing, one, join}
-use Rattle.enc_flow.specs.Env.{Env, find, ty_of}
+use Rattle.enc_flow.specs.Env.{Env, find}
 use Rattle.enc_types.specs.Names.{Names}
 use Rattle.enc_names.specs.declared.members.Slot.{Slot}
-use Rattle.enc_names.specs.declared.members.Signature.{Signature}
 use Rattle.enc_exprs.specs.declared.uses.Use.TheVariants.{Copies, Consumes, Looks}
-use Rattle.enc_exprs.specs.Uses.{this_word, visible, lends, regains}
+use Rattle.enc_exprs.specs.Uses.{this_word, visible, regains}
 use Rattle.enc_exprs.specs.Types.{item_of}
-use Rattle.enc_exprs.specs.Exprs.{judged, expr_type, expr_premises}
+use Rattle.enc_exprs.specs.Exprs.{judged}
 use Rattle.enc_exprs.specs.Typing.{IsTyped, Copied}
 use Rattle.enc_exprs.specs.Typing as e
 use Rattle.enc_exprs.proofs.ExprFine.{Fine, expr_fine}
 use Rattle.enc_exprs.proofs.Variables.{usable_at, variable_fine}
 use Rattle.enc_exprs.proofs.Sorts.{list_of}
 use Rattle.enc_exprs.proofs.Same.{same_self}
-use Rattle.enc_rules.specs.Context.{Context, field_type, function_of}
+use Rattle.enc_rules.specs.Context.{Context}
 use Rattle.enc_rules.specs.Parts.{future_of, tree_of, tree_of_trees}
-use Rattle.enc_rules.specs.Calls.{receiver_type, receiver_word, receiver_span, is_this, called, sent, arguments, after_arguments, arguments_of, after_args, invoked, after_invoked, may_call, may_enter, may_send, params_of, applies, further}
+use Rattle.enc_rules.specs.Calls.{receiver_type, receiver_word, receiver_span, is_this, called, sent, arguments, arguments_of, after_args, invoked, after_invoked, may_call, may_enter, may_send, applies, further}
 use Rattle.enc_rules.specs.Sources.{Outcome, outcome, part, trees, applied_by, applied, shared, bestowed, call, call_of, send, send_of}
 use Rattle.enc_rules.specs.Typing.{names_of, AreArguments, Invokes, Applies, Gives}
 use Rattle.enc_rules.specs.Typing as t

@@ -1,5 +1,5 @@
 -- A statement that is well typed has no premise that fails.
-use Rattle.std.proofs.Common.{◌≡◌, Bool, true, false, not, ◌&&◌, List, [], ◌∷◌, Option, Some, None, refl, sym, ap, ◌∙◌, subst, arith}
+use Rattle.std.proofs.Common.{◌≡◌, true, false, not, List, Option, Some, None, refl, sym, ap, ◌∙◌, subst, arith}
 use Rattle.std.specs.Prelude.{is_some}
 use Rattle.enc_ast.specs.declared.rules.Rule.{Rule}
 use Rattle.enc_ast.specs.declared.rules.Rule.TheVariants as rule
@@ -7,7 +7,6 @@ use Rattle.enc_ast.specs.declared.rules.Span.{Span}
 use Rattle.enc_ast.specs.declared.Expr.{Expr}
 use Rattle.enc_ast.specs.declared.Stmt.{Stmt}
 use Rattle.enc_ast.specs.declared.StmtForm.{out-StmtForm}
-use Rattle.enc_ast.specs.declared.StmtForm.TheOpen.{StmtForm-F}
 use Rattle.enc_modes.specs.declared.ty.Ty.{Ty}
 use Rattle.enc_modes.specs.declared.ty.Ty.TheVariants as ty
 use Rattle.enc_premises.specs.Premises.{each}
@@ -15,20 +14,17 @@ use Rattle.enc_premises.specs.First.{AllHold, nothing, one, join}
 use Rattle.enc_flow.specs.declared.env.Var.{Var}
 use Rattle.enc_flow.specs.Env.{Env, find, ty_of, declares, merged, cut, same_moves}
 use Rattle.enc_types.specs.Words.{every}
-use Rattle.enc_types.specs.Names.{Names, trait_named}
-use Rattle.enc_types.specs.Written.{type_of}
 use Rattle.enc_exprs.specs.declared.uses.Use.TheVariants.{Copies, Consumes}
 use Rattle.enc_exprs.specs.Uses.{this_word, lends, regains}
-use Rattle.enc_exprs.specs.Types.{is_bool}
 use Rattle.enc_exprs.specs.Exprs.{expr_premises}
-use Rattle.enc_exprs.specs.Typing.{IsTyped, Copied}
+use Rattle.enc_exprs.specs.Typing.{Copied}
 use Rattle.enc_exprs.proofs.ExprFine.{expr_fine}
 use Rattle.enc_exprs.proofs.Variables.{usable_at, variable_fine}
 use Rattle.enc_exprs.proofs.Sorts.{bool_of}
 use Rattle.enc_exprs.proofs.Same.{same_self}
 use Rattle.enc_rules.specs.Context.{Context}
 use Rattle.enc_rules.specs.Sources.{outcome}
-use Rattle.enc_rules.specs.Stmts.{Act, act, acts, act_form, all_premises, all_after, condition, prints, within, var_type, split_ok, pack_ok, pack_known, pack_start, choice, choose_ok}
+use Rattle.enc_rules.specs.Stmts.{Act, act, acts, act_form, all_premises, all_after, condition, prints, var_type, pack_known, pack_start}
 use Rattle.enc_rules.specs.Typing.{Layer, names_of, AllPrint, Types, TypesAll}
 use Rattle.enc_rules.specs.Typing as t
 use Rattle.enc_rules.proofs.Acts.{seen, act_layer}

@@ -1,7 +1,6 @@
 -- Calls, sends and uses of functions.
-use Rattle.std.specs.Prelude.{ℕ, Bool, true, false, not, ◌==◌, ◌&&◌, ◌||◌, cond, List, [], ◌∷◌, length, map, Option, Some, None, is_some, option_map, option_and_then}
+use Rattle.std.specs.Prelude.{ℕ, Bool, true, false, not, ◌==◌, ◌&&◌, ◌||◌, cond, List, [], ◌∷◌, length, map, Option, Some, None, option_map, option_and_then}
 use Rattle.enc_ast.specs.declared.rules.Span.{Span}
-use Rattle.enc_ast.specs.declared.decls.Name.{Name}
 use Rattle.enc_ast.specs.declared.Expr.{Expr}
 use Rattle.enc_ast.specs.declared.stmts.Receiver.{Receiver}
 use Rattle.enc_ast.specs.declared.stmts.Receiver.TheVariants as r
@@ -19,7 +18,6 @@ use Rattle.enc_names.specs.Lookups.{method_for, sent_for, signature_of}
 use Rattle.enc_exprs.specs.declared.uses.Use.TheVariants.{Consumes, Looks}
 use Rattle.enc_exprs.specs.Uses.{this_word, variable, lends, regains}
 use Rattle.enc_exprs.specs.Exprs.{Judged, operand, consumes, judged}
-use Rattle.enc_rules.specs.Context.{Context, function_of}
 use Rattle.enc_rules.specs.Parts.{is_cap, is_target, is_subordinate}
 
 -- ---- receivers
@@ -131,7 +129,7 @@ may_travel m = if_known sendable_signature m
 
 -- ---- functions
 
-abbrev rest_of : List Slot → List Slot
+abbrev pub rest_of : List Slot → List Slot
 rest_of [] = []
 rest_of (p ∷ ps) = ps
 
@@ -139,7 +137,7 @@ rest_of (p ∷ ps) = ps
 abbrev pub further : Option Signature → Option (List Slot)
 further f = option_map (λ z. rest_of z.params) f
 
-abbrev first_is : List Slot → Option Ty → Bool
+abbrev pub first_is : List Slot → Option Ty → Bool
 first_is [] t = false
 first_is (p ∷ ps) t = if_known (same p.ty) t
 

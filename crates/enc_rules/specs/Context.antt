@@ -1,5 +1,5 @@
 -- What a body is judged in.
-use Rattle.std.specs.Prelude.{ℕ, Bool, true, false, List, [], ◌∷◌, Option, Some, None, option_map, option_and_then, slice_get}
+use Rattle.std.specs.Prelude.{ℕ, Bool, true, false, List, [], ◌∷◌, Option, Some, None, option_and_then, slice_get}
 use Rattle.enc_modes.specs.declared.ty.Mode.{Mode}
 use Rattle.enc_modes.specs.declared.ty.Mode.TheVariants as mode
 use Rattle.enc_modes.specs.declared.ty.Ty.{Ty}
@@ -9,7 +9,6 @@ use Rattle.enc_types.specs.declared.names.Meaning.TheVariants as is
 use Rattle.enc_types.specs.Names.{Names, found_at}
 use Rattle.enc_names.specs.declared.members.Slot.{Slot}
 use Rattle.enc_names.specs.declared.members.Signature.{Signature}
-use Rattle.enc_names.specs.declared.members.MethodId.{MethodId}
 use Rattle.enc_names.specs.Members.{Tables}
 use Rattle.enc_names.specs.Lookups.{fields_of, field_of, signature_of, function_named}
 

@@ -1,5 +1,5 @@
 -- What types are made of.
-use Rattle.std.specs.Prelude.{Bool, true, false, ◌&&◌, List, [], ◌∷◌, Option, Some, None, is_some, option_map, option_and_then}
+use Rattle.std.specs.Prelude.{Bool, true, false, [], ◌∷◌, Option, Some, None, is_some, option_map, option_and_then}
 use Rattle.enc_modes.specs.declared.ty.Alt.{Alt}
 use Rattle.enc_modes.specs.declared.ty.Mode.{Mode}
 use Rattle.enc_modes.specs.declared.ty.Mode.TheVariants as mode

@@ -1,5 +1,5 @@
 -- The rules of bodies and of programs.
-use Rattle.std.specs.Prelude.{ℕ, suc, Bool, true, false, ◌||◌, List, [], ◌∷◌, ◌++◌, map, Option, Some, None}
+use Rattle.std.specs.Prelude.{ℕ, suc, false, ◌||◌, List, [], ◌∷◌, ◌++◌, map, Option, Some, None}
 use Rattle.enc_ast.specs.declared.rules.Rule.TheVariants as rule
 use Rattle.enc_ast.specs.declared.rules.Reject.{Reject}
 use Rattle.enc_ast.specs.declared.decls.Decl.{Decl}
@@ -7,7 +7,6 @@ use Rattle.enc_ast.specs.declared.decls.Decl.TheVariants.{Trait, Class, Active, 
 use Rattle.enc_ast.specs.declared.decls.Method.{Method}
 use Rattle.enc_ast.specs.declared.decls.Param.{Param}
 use Rattle.enc_ast.specs.declared.decls.Program.{Program}
-use Rattle.enc_modes.specs.declared.ty.Ty.{Ty}
 use Rattle.enc_modes.specs.declared.ty.Ty.TheVariants as ty
 use Rattle.enc_modes.specs.Equality.{same}
 use Rattle.enc_premises.specs.Premises.{Premises, none, ◌⨾◌, node, each}
@@ -15,7 +14,6 @@ use Rattle.enc_premises.specs.First.{FirstFailure}
 use Rattle.enc_flow.specs.declared.env.Var.{Var}
 use Rattle.enc_flow.specs.Env.{Env}
 use Rattle.enc_types.specs.Names.{Names}
-use Rattle.enc_types.specs.Written.{type_of}
 use Rattle.enc_decls.specs.Rules.{table_premises}
 use Rattle.enc_names.specs.Members.{Tables, tables_of, type_or_unit}
 use Rattle.enc_exprs.specs.Uses.{this_word}

@@ -1,5 +1,5 @@
 -- Which sources and statements are well typed. Each premise is named by its rule.
-use Rattle.std.specs.Prelude.{◌≡◌, Bool, true, false, ◌&&◌, ◌||◌, not, List, [], ◌∷◌, Option, Some, None, is_some}
+use Rattle.std.specs.Prelude.{◌≡◌, true, false, ◌&&◌, ◌||◌, not, List, [], ◌∷◌, Some, None, is_some}
 use Rattle.enc_ast.specs.declared.rules.Span.{Span}
 use Rattle.enc_ast.specs.declared.decls.Name.{Name}
 use Rattle.enc_ast.specs.declared.TypeText.{TypeText}

@@ -1,6 +1,6 @@
-//! The rules of statements and programs.
+//! The rules of statements and programs, and what they come to.
 #![tactic(auto)]
 
-mod cites;
+mod laws;
 
-pub use cites::cited;
+pub use laws::{one_answer, rules_agree};
