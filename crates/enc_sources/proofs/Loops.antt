@@ -1,5 +1,5 @@
 -- Loops over arguments and parameters: what is left of them.
-use Rattle.std.proofs.Common.{◌≡◌, ℕ, zero, suc, ◌+◌, ◌<◌, ◌≤◌, Bool, true, false, ◌&&◌, List, [], ◌∷◌, length, drop, map, Option, Some, None, refl, sym, ap, ◌∙◌, arith, add-one, slice_index_or, slice_get}
+use Rattle.std.proofs.Common.{◌≡◌, ℕ, zero, suc, ◌+◌, ◌<◌, ◌≤◌, List, [], ◌∷◌, length, drop, map, Option, Some, None, refl, add-one, slice_index_or, slice_get}
 use Rattle.enc_ast.specs.declared.Expr.{Expr}
 use Rattle.enc_ast.specs.declared.rules.Fail.{Fail}
 use Rattle.enc_premises.specs.Premises.{◌⨾◌}

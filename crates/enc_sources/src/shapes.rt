@@ -6,7 +6,7 @@ ghost use Rattle.enc_exprs.specs.Types.{item_of};
 ghost use Rattle.enc_rules.specs.Parts as parts;
 ghost use Rattle.enc_sources.specs.Shapes.{made_by, part_by, shared as shared_type};
 
-use enc_ast::Boxed;
+use enc_ast::{Boxed, Rule};
 use enc_modes::{Ty, is_shareable};
 use enc_types::local_of;
 use std::alloc::{AllocError, Global};
@@ -36,6 +36,80 @@ pub enum Made {
     Tree,
     List,
 }
+
+/// What a source asks of the type of its operand, by which rule, and what is made of the part.
+#[derive(Clone, Copy)]
+pub struct Shape {
+    pub rule: Rule,
+    pub part: Part,
+    pub made: Made,
+}
+
+pub const GET: Shape = Shape {
+    rule: Rule::SGet,
+    part: Part::Future,
+    made: Made::Same,
+};
+
+pub const AWAIT: Shape = Shape {
+    rule: Rule::SAwait,
+    part: Part::Future,
+    made: Made::Same,
+};
+
+pub const CHAIN: Shape = Shape {
+    rule: Rule::SChain,
+    part: Part::Future,
+    made: Made::Future,
+};
+
+pub const LIFT: Shape = Shape {
+    rule: Rule::SPart,
+    part: Part::Shared,
+    made: Made::Tree,
+};
+
+pub const LIFT_FUTURE: Shape = Shape {
+    rule: Rule::SPart,
+    part: Part::Future,
+    made: Made::Tree,
+};
+
+pub const EACH: Shape = Shape {
+    rule: Rule::SPart,
+    part: Part::Item,
+    made: Made::Tree,
+};
+
+pub const SEQ: Shape = Shape {
+    rule: Rule::SPart,
+    part: Part::Tree,
+    made: Made::Tree,
+};
+
+pub const JOIN: Shape = Shape {
+    rule: Rule::SPart,
+    part: Part::TreeOfTrees,
+    made: Made::Tree,
+};
+
+pub const PRUNE: Shape = Shape {
+    rule: Rule::SPart,
+    part: Part::Tree,
+    made: Made::Tree,
+};
+
+pub const EXTRACT: Shape = Shape {
+    rule: Rule::SPart,
+    part: Part::Tree,
+    made: Made::List,
+};
+
+pub const BESTOW: Shape = Shape {
+    rule: Rule::SBestow,
+    part: Part::Local,
+    made: Made::Same,
+};
 
 /// Whether a type has the part, as far as it is known, and the part.
 pub fn inner_of(part: Part, ty: Option<Ty>) -> (bool, Option<Ty>)

@@ -21,7 +21,10 @@ use crate::calls::{
 use crate::context::Context;
 use crate::outcome::{Demand, Outcome};
 use crate::parts::{agree, tree_of};
-use crate::shapes::{Made, Part, given, inner_of, make};
+use crate::shapes::{
+    AWAIT, BESTOW, CHAIN, EACH, EXTRACT, GET, JOIN, LIFT, LIFT_FUTURE, Made, PRUNE, SEQ, Shape,
+    given, inner_of, make,
+};
 use enc_ast::{Expr, Fail, Name, Receiver, Rule, SourceForm, Span};
 use enc_exprs::{Use, consumed, expr_type, visible};
 use enc_flow::Env;
@@ -29,7 +32,7 @@ use enc_modes::{Ty, is_linear};
 use std::alloc::Global;
 
 /// Judges the parts of a source, and answers what else its statement has to keep. It refuses by the first
-/// premise of the parts that fails, and leaves the variables at the part that it judged then.
+/// premise of the parts that fails. After an error nothing is known of the variables.
 #[tactic(auto, unfolding(enc_rules::specs::Sources::outcome))]
 pub fn source(
     alloc: Global,
@@ -48,93 +51,33 @@ pub fn source(
         SourceForm::New(class) => new(context, env, class),
         SourceForm::Field(span, name) => {
             field(alloc, context, env, Rule::SField, false, *span, name)
-        },
+        }
         SourceForm::Take(span, name) => {
             field(alloc, context, env, Rule::STake, true, *span, name)
-        },
+        }
         SourceForm::Call(to, method, args) => {
             call(alloc, context, env, to, method, args.as_slice())
         }
         SourceForm::Send(to, method, args) => {
             send(alloc, context, env, to, method, args.as_slice())
         }
-        SourceForm::Get(x) => part(alloc, context, env, Rule::SGet, Part::Future, Made::Same, x),
-        SourceForm::Await(x) => part(
-            alloc,
-            context,
-            env,
-            Rule::SAwait,
-            Part::Future,
-            Made::Same,
-            x,
-        ),
+        SourceForm::Get(x) => part(alloc, context, env, GET, x),
+        SourceForm::Await(x) => part(alloc, context, env, AWAIT, x),
         SourceForm::Chain(x, function, args) => {
-            applied(
-                alloc,
-                context,
-                env,
-                Rule::SChain,
-                Part::Future,
-                Made::Future,
-                x,
-                function,
-                args.as_slice(),
-            )
+            applied(alloc, context, env, CHAIN, x, function, args.as_slice())
         }
-        SourceForm::Lift(x) => part(
-            alloc,
-            context,
-            env,
-            Rule::SPart,
-            Part::Shared,
-            Made::Tree,
-            x,
-        ),
-        SourceForm::LiftFuture(x) => part(
-            alloc,
-            context,
-            env,
-            Rule::SPart,
-            Part::Future,
-            Made::Tree,
-            x,
-        ),
-        SourceForm::Each(x) => part(alloc, context, env, Rule::SPart, Part::Item, Made::Tree, x),
+        SourceForm::Lift(x) => part(alloc, context, env, LIFT, x),
+        SourceForm::LiftFuture(x) => part(alloc, context, env, LIFT_FUTURE, x),
+        SourceForm::Each(x) => part(alloc, context, env, EACH, x),
         SourceForm::Both(x, y) => trees(alloc, context, env, x, y),
         SourceForm::Otherwise(x, y) => trees(alloc, context, env, x, y),
         SourceForm::Seq(x, function, args) => {
-            applied(
-                alloc,
-                context,
-                env,
-                Rule::SPart,
-                Part::Tree,
-                Made::Tree,
-                x,
-                function,
-                args.as_slice(),
-            )
+            applied(alloc, context, env, SEQ, x, function, args.as_slice())
         }
-        SourceForm::Join(x) => part(
-            alloc,
-            context,
-            env,
-            Rule::SPart,
-            Part::TreeOfTrees,
-            Made::Tree,
-            x,
-        ),
-        SourceForm::Prune(x) => part(alloc, context, env, Rule::SPart, Part::Tree, Made::Tree, x),
-        SourceForm::Extract(x) => part(alloc, context, env, Rule::SPart, Part::Tree, Made::List, x),
-        SourceForm::Bestow(x) => part(
-            alloc,
-            context,
-            env,
-            Rule::SBestow,
-            Part::Local,
-            Made::Same,
-            x,
-        ),
+        SourceForm::Join(x) => part(alloc, context, env, JOIN, x),
+        SourceForm::Prune(x) => part(alloc, context, env, PRUNE, x),
+        SourceForm::Extract(x) => part(alloc, context, env, EXTRACT, x),
+        SourceForm::Bestow(x) => part(alloc, context, env, BESTOW, x),
     }
 }
 
@@ -209,8 +152,7 @@ fn fits(linear: bool, field: Option<&Ty>) -> bool
 }
 
 /// Judges the receiver and the arguments of a call, and answers what else its statement has to keep. It
-/// refuses by the first premise of the parts that fails, and leaves the variables at the part that it
-/// judged then.
+/// refuses by the first premise of the parts that fails. After an error nothing is known of the variables.
 #[tactic(auto, using(enc_premises::proofs::Passing::passing, enc_exprs::proofs::Memory::out_of_memory))]
 pub fn call(
     alloc: Global,
@@ -242,8 +184,7 @@ pub fn call(
 }
 
 /// Judges the receiver and the arguments of a send, and answers what else its statement has to keep. It
-/// refuses by the first premise of the parts that fails, and leaves the variables at the part that it
-/// judged then.
+/// refuses by the first premise of the parts that fails. After an error nothing is known of the variables.
 #[tactic(auto, using(enc_premises::proofs::Passing::passing, enc_exprs::proofs::Memory::out_of_memory))]
 pub fn send(
     alloc: Global,
@@ -279,22 +220,23 @@ fn part(
     alloc: Global,
     context: &Context<'_>,
     env: &Env,
-    rule: Rule,
-    part: Part,
-    made: Made,
+    shape: Shape,
     expr: &Expr,
 ) -> Result<Outcome, Fail>
     ensures premises { Passes result (exprs.expr_premises context.now.tables.names env.now Copies expr.now) }
-    ensures own { IfOk result (λ o. o.own ≡ (rule, if_known (λ t. is_some (part_by part t)) (exprs.expr_type context.now.tables.names env.now expr.now))) }
+    ensures own { IfOk result (λ o. o.own ≡ (shape.rule, if_known (λ t. is_some (part_by shape.part t)) (exprs.expr_type context.now.tables.names env.now expr.now))) }
     ensures more { IfOk result (λ o. o.more ≡ spec.free) }
-    ensures ty { IfOk result (λ o. o.ty ≡ option_map (made_by made) (option_and_then (part_by part) (exprs.expr_type context.now.tables.names env.now expr.now))) }
+    ensures ty { IfOk result (λ o. o.ty ≡ option_map (made_by shape.made) (option_and_then (part_by shape.part) (exprs.expr_type context.now.tables.names env.now expr.now))) }
 {
     let ty = expr_type(alloc, context.names(), env, expr, Use::Copies)?;
-    let (holds, inner) = inner_of(part, ty);
+    let (holds, inner) = inner_of(shape.part, ty);
     Ok(Outcome {
-        own: Demand { rule, holds },
+        own: Demand {
+            rule: shape.rule,
+            holds,
+        },
         more: Demand::free(),
-        ty: make(alloc, made, inner)?,
+        ty: make(alloc, shape.made, inner)?,
     })
 }
 
@@ -344,30 +286,28 @@ fn applied(
     alloc: Global,
     context: &Context<'_>,
     env: &mut Env,
-    rule: Rule,
-    part: Part,
-    made: Made,
+    shape: Shape,
     expr: &Expr,
     name: &Name,
     args: &[Expr],
 ) -> Result<Outcome, Fail>
     ensures premises { Passes result (exprs.expr_premises context.now.tables.names env.old Copies expr.now ⨾ calls.arguments_of context.now.tables.names env.old (calls.further (function_of context.now.tables name.now.word)) args.now) }
-    ensures own { IfOk result (λ o. o.own ≡ (rule, if_known (λ t. is_some (part_by part t)) (exprs.expr_type context.now.tables.names env.old expr.now) && calls.applies (function_of context.now.tables name.now.word) (length args.now) (option_and_then (part_by part) (exprs.expr_type context.now.tables.names env.old expr.now)))) }
+    ensures own { IfOk result (λ o. o.own ≡ (shape.rule, if_known (λ t. is_some (part_by shape.part t)) (exprs.expr_type context.now.tables.names env.old expr.now) && calls.applies (function_of context.now.tables name.now.word) (length args.now) (option_and_then (part_by shape.part) (exprs.expr_type context.now.tables.names env.old expr.now)))) }
     ensures more { IfOk result (λ o. o.more ≡ spec.free) }
-    ensures ty { IfOk result (λ o. o.ty ≡ option_map (made_by made) (calls.result_of (function_of context.now.tables name.now.word))) }
+    ensures ty { IfOk result (λ o. o.ty ≡ option_map (made_by shape.made) (calls.result_of (function_of context.now.tables name.now.word))) }
     ensures after { OnOk result (env.new ≡ calls.after_args context.now.tables.names env.old args.now) }
 {
     let ty = expr_type(alloc, context.names(), env, expr, Use::Copies)?;
-    let (holds, inner) = inner_of(part, ty);
+    let (holds, inner) = inner_of(shape.part, ty);
     let function = context.function(name.word.as_str());
     arguments(alloc, context.names(), env, further(function), args)?;
     Ok(Outcome {
         own: Demand {
-            rule,
+            rule: shape.rule,
             holds: holds && applies(function, args.len(), inner.as_ref()),
         },
         more: Demand::free(),
-        ty: given(alloc, made, result_of(function))?,
+        ty: given(alloc, shape.made, result_of(function))?,
     })
 }
 
