@@ -35,6 +35,7 @@ pub named_at : (ds : List Decl) (k : ℕ) → slice_get (names_of ds) k ≡ opti
 unfolding names_of
 named_at ds k = slice_get-map (named (meaning_of ds)) ds k
 
+-- the trait that a declaration is
 alt_same : (ds : List Decl) (k : ℕ) (d : Option Decl) → option_and_then alt_in (option_map {T = Named} {U = ℕ × Meaning} (λ n. (k, n.is)) (option_map (named (meaning_of ds)) d)) ≡ alt_by k d
 alt_same ds k None = refl
 alt_same ds k (Some (Trait d)) = refl
@@ -53,18 +54,22 @@ trait_same ds x = ap (λ ws. option_and_then alt_in (option_and_then (found_at (
 
 -- ---- groups of classes
 
+-- what is asked in other words
 every_same : {A : Type 0} (f g : A → Bool) → ((x : A) → f x ≡ g x) → (xs : List A) → every f xs ≡ every g xs
 every_same f g e [] = refl
 every_same f g e (x ∷ xs) = ap (λ b. b && every f xs) (e x) ∙ ap (λ b. g x && b) (every_same f g e xs)
 
+-- the traits of a group
 group_known : (ds : List Decl) (g : GroupText) → are_traits (names_of ds) g ≡ true → is_some (group_of ds g) ≡ true
 unfolding are_traits
 group_known ds g h = all_there_known (λ n. trait_of ds n.word) g.names (sym (every_same _ _ (λ n. ap is_some (trait_same ds n.word)) g.names) ∙ h)
 
+-- the traits of all groups
 all_groups_known : (ds : List Decl) (gs : List GroupText) → AllHold (each (group_premises ds (names_of ds)) gs) → every (λ g. is_some (group_of ds g)) gs ≡ true
 all_groups_known ds [] h = refl
 all_groups_known ds (g ∷ gs) (join (join (one a) o) i) = rw (group_known ds g a, all_groups_known ds gs i) refl
 
+-- the groups of a class
 class_known : (ds : List Decl) (before : List Decl) (c : ClassDecl) → AllHold (decl_premises ds (names_of ds) before (Class c)) → is_some (groups_of ds c) ≡ true
 class_known ds before c (join h i) = mapped_known in_order _ (all_there_known (group_of ds) c.groups (all_groups_known ds c.groups h))
 
@@ -91,6 +96,7 @@ found_declared ds x k m e = go (number_of (names_of ds) x) e
     go None h = absurd (grind arith)
     go (Some j) h = at j (slice_get ds j) refl (ap (option_map {T = Named} {U = ℕ × Meaning} (λ n. (j, n.is))) (sym (named_at ds j)) ∙ h)
 
+-- the groups of all classes
 classes_known : (ds : List Decl) → AllHold (each_after (decl_premises ds (names_of ds)) [] ds) → ClassesKnown (names_of ds)
 classes_known ds h x k c e =
     let d = found_declared ds x k (is.Class c) e in

@@ -22,6 +22,7 @@ ty_set (x ∷ vs) zero v w (suc n) e t = refl
 ty_set (x ∷ vs) (suc i) v w zero e t = refl
 ty_set (x ∷ vs) (suc i) v w (suc n) e t = ty_set vs i v w n e t
 
+-- a variable marked as moved or not
 ty_marked : (env : Env) (i : ℕ) (b : Bool) (y : List ℕ) → ty_of (find (marked_at env i b) y) ≡ ty_of (find env y)
 unfolding marked_at find number_of
 ty_marked env i b y = go (slice_get env i) refl
@@ -34,6 +35,7 @@ ty_marked env i b y = go (slice_get env i) refl
     go None e = refl
     go (Some v) e = ap (λ z. ty_of (at_number (slice_set env i (record v { moved = b })) z)) (number_set env i v (record v { moved = b }) 0 y e refl) ∙ last (number_from 0 env y) v e
 
+-- a variable taken
 ty_taken : (env : Env) (n : Option ℕ) (y : List ℕ) → ty_of (find (taken_at env n) y) ≡ ty_of (find env y)
 ty_taken env None y = refl
 ty_taken env (Some i) y = go (linear (ty_of (slice_get env i)))

@@ -76,6 +76,7 @@ pub record Bestows (t u : Ty) : Type 0 where
   pub local : local_of t ≡ Some alt
   pub is : ty.Bestowed alt ≡ u
 
+-- what can be bestowed has a local trait
 pub bestowed_is : (ctx : Context) (env : Env) (t u : Ty) → bestowed ctx env t ≡ Some u → Bestows t u
 bestowed_is ctx env t u h = go (local_of t) refl h
   where

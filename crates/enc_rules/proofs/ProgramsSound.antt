@@ -33,16 +33,19 @@ abbrev ThisKnown : Names → Option ℕ → Type 0
 ThisKnown names None = Unit {0}
 ThisKnown names (Some k) = (t : Ty) × (this_type names k ≡ Some t)
 
+-- the types of parameters
 params_known : (names : Names) (ps : List Param) → Knows (map (param_var names) ps)
 params_known names [] = end
 params_known names (p ∷ ps) = more (type_or_unit names p.ty) refl (params_known names ps)
 
+-- the types of all of them
 start_known : (names : Names) (owner : Option ℕ) (ps : List Param) → ThisKnown names owner → Knows (start names owner ps)
 start_known names None ps h = params_known names ps
 start_known names (Some k) ps h = more h.0 h.1 (params_known names ps)
 
 -- ---- bodies
 
+-- what holds of each holds in a row
 in_row_holds : {A : Type 0} (f : A → Premises) (xs : List A) → AllHold (each f xs) → AllHold (in_row (map f xs))
 in_row_holds f [] h = h
 in_row_holds f (x ∷ xs) (join h i) = join h (in_row_holds f xs i)
@@ -76,11 +79,13 @@ decl_sound t ds before k (Fun d) w e (join (join ps (join result body)) n) b = r
 abbrev Stand : Tables → List Decl → ℕ → List Decl → Type 0
 Stand t whole k ds = (j : ℕ) (d : Decl) → slice_get ds j ≡ Some d → found_at t.names (k + j) ≡ Some (k + j, meaning_of whole d)
 
+-- the first of them
 first_stands : (t : Tables) (whole : List Decl) (k : ℕ) (d : Decl) (ds : List Decl) → Stand t whole k (d ∷ ds) → found_at t.names k ≡ Some (k, meaning_of whole d)
 first_stands t whole k d ds s =
     let e : k + 0 ≡ k = omega arith in
     subst (λ z. found_at t.names z ≡ Some (z, meaning_of whole d)) e (s 0 d refl)
 
+-- the others
 rest_stand : (t : Tables) (whole : List Decl) (k : ℕ) (d : Decl) (ds : List Decl) → Stand t whole k (d ∷ ds) → Stand t whole (suc k) ds
 rest_stand t whole k d ds s j x q =
     let e : k + suc j ≡ suc k + j = omega arith in
@@ -93,10 +98,12 @@ bodies_sound t whole k before (d ∷ ds) w s (join h i) (join b c) = (decl_sound
 
 -- ---- programs
 
+-- what is asked of its declarations
 decls_hold : (p : Program) → HasTables p → AllHold (each_after (decl_premises p.decls (names_of p.decls)) [] p.decls)
 unfolding table_premises
 decls_hold p (join h i) = h
 
+-- its declarations stand at their numbers
 all_stand : (ds : List Decl) → Stand (tables_of ds) ds 0 ds
 unfolding tables_of
 all_stand ds j d q =

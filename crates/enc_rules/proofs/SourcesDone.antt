@@ -66,6 +66,7 @@ pub record Args (names : Names) (env : Env) (ps : List Slot) (xs : List Expr) (l
   pub after : last ≡ after_args names env xs
   pub long : length ps ≡ length xs
 
+-- arguments one after another
 pub args_done : {names : Names} {env last : Env} {ps : List Slot} {xs : List Expr} → AreArguments names env ps xs last → Args names env ps xs last
 args_done t.end = record { hold = nothing; after = refl; long = refl }
 args_done {names = names} {env = env} (t.more {last = last} {p = p} {ps = ps} {a = a} {as_ = as_} mid d r) =
@@ -88,6 +89,7 @@ pub record Invoked (names : Names) (env : Env) (to : Receiver) (t : Ty) (ps : Li
   pub long : (length ps == length xs) ≡ true
   pub after : last ≡ after_invoked names env to xs
 
+-- a receiver and its arguments
 invoked_done : {names : Names} {env last : Env} {to : Receiver} {t : Ty} {ps : List Slot} {xs : List Expr} → Invokes names env to t ps xs last → Invoked names env to t ps xs last
 unfolding invoked after_invoked
 invoked_done {names} {env} {last} {to} {t} {ps} {xs} i =
@@ -110,17 +112,20 @@ pub record Done (env : Env) (o : Outcome) (t : Ty) (last : Env) : Type 0 where
   pub ty : o.ty ≡ Some t
   pub after : last ≡ o.after
 
+-- a part of the type of an operand
 part_done : (ctx : Context) (env : Env) {x : Expr} {t : Ty} (r : Rule) (of : Ty → Option Ty) (make : Ty → Ty) (u : Ty) → Copied (names_of ctx) env x t → of t ≡ Some u → Done env (part ctx env r of make x) (make u) env
 part_done ctx env r of make u d h =
     let f = copied_fine d in
     record { parts = f.hold; own = rw (f.ty, h) refl; more = refl; ty = rw (f.ty, h) refl; after = refl }
 
+-- two trees of one type
 trees_done : (ctx : Context) (env : Env) {x y : Expr} (t : Ty) → Copied (names_of ctx) env x (ty.Par t) → Copied (names_of ctx) env y (ty.Par t) → Done env (trees ctx env x y) (ty.Par t) env
 trees_done ctx env t d c =
     let f = copied_fine d in
     let g = copied_fine c in
     record { parts = join f.hold g.hold; own = rw (f.ty, g.ty, tree_has t) (same_self (ty.Par t)); more = refl; ty = f.ty; after = refl }
 
+-- a function for a part of the type of an operand
 applied_done : (ctx : Context) (env : Env) {last : Env} {x : Expr} {f : Name} {xs : List Expr} {v t u : Ty} (r : Rule) (of : Ty → Option Ty) (make : Ty → Ty) → Copied (names_of ctx) env x v → of v ≡ Some t → Applies ctx env f t xs u last → Done env (applied ctx env r of make x f xs) (make u) last
 applied_done ctx env {last} {x} {f} {xs} {v} {t} {u} r of make d h a =
     let g = copied_fine d in
@@ -137,6 +142,7 @@ applied_done ctx env {last} {x} {f} {xs} {v} {t} {u} r of make d h a =
       after = b.after;
     })
 
+-- a call
 pub call_done : {ctx : Context} {env last : Env} {to : Receiver} {m : Name} {xs : List Expr} {t : Ty} → Gives ctx env (s.Call to m xs) t last → Done env (call ctx env to m xs) t last
 call_done {ctx} {env} (t.call {to = to} {m = m} {xs = xs} {last = last} t' d i c k n) =
     let v = invoked_done i in
@@ -150,6 +156,7 @@ call_done {ctx} {env} (t.call {to = to} {m = m} {xs = xs} {last = last} t' d i c
       after = v.after;
     })
 
+-- a send
 pub send_done : {ctx : Context} {env last : Env} {to : Receiver} {m : Name} {xs : List Expr} {t : Ty} → Gives ctx env (s.Send to m xs) t last → Done env (send ctx env to m xs) t last
 send_done {ctx} {env} (t.send {to = to} {m = m} {xs = xs} {last = last} t' d i c k n o) =
     let v = invoked_done i in
@@ -165,6 +172,7 @@ send_done {ctx} {env} (t.send {to = to} {m = m} {xs = xs} {last = last} t' d i c
 
 -- ---- each source
 
+-- each source, by its shape
 pub source_done : {ctx : Context} {env last : Env} {src : SourceForm} {t : Ty} → Gives ctx env src t last → Done env (outcome ctx env src) t last
 unfolding outcome
 source_done {ctx = ctx} {env = env} (t.value {x = x} {t = t'} {last = last} d) =

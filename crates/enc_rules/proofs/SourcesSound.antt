@@ -78,6 +78,7 @@ pub record Operand (names : Names) (env : Env) (x : Expr) : Type 0 where
   pub typed : Copied names env x t
   pub ty : expr_type names env x ≡ Some t
 
+-- an operand in a copying place, whose types may be written
 pub operand_typed : (names : Names) (env : Env) (x : Expr) → AreKnown names → Knows env → AllHold (expr_types names x) → AllHold (expr_premises names env Copies x) → Operand names env x
 operand_typed names env x w k v h =
     let f = expr_typed names env Copies x w k v h in
@@ -94,6 +95,7 @@ record Args (names : Names) (env : Env) (ps : List Slot) (xs : List Expr) : Type
   typed : AreArguments names env ps xs (after_args names env xs)
   knows : Knows (after_args names env xs)
 
+-- arguments one after another
 args_typed : (names : Names) (xs : List Expr) (ps : List Slot) (env : Env) → AreKnown names → Knows env → length ps ≡ length xs → AllHold (exprs_types names xs) → AllHold (arguments env ps (map (judged names) xs)) → Args names env ps xs
 args_typed names [] [] env w k l v h = record { typed = t.end; knows = k }
 args_typed names [] (p ∷ ps) env w k l v h = absurd (omega arith)
@@ -113,6 +115,7 @@ asked_typed names env ps xs w k l v h =
 
 -- ---- receivers
 
+-- the type of a receiver
 receiver_known : (names : Names) (env : Env) (to : Receiver) (ps : Option (List Slot)) (xs : List Expr) → Knows env → AllHold (invoked names env to ps xs) → Named env Looks (is_this to) (receiver_word to)
 unfolding invoked
 receiver_known names env to ps xs k (join h i) = variable_known env Looks (is_this to) (receiver_word to) (receiver_span to) k h
@@ -122,6 +125,7 @@ record Invoked (names : Names) (env : Env) (to : Receiver) (t : Ty) (ps : List S
   typed : Invokes names env to t ps xs (after_invoked names env to xs)
   knows : Knows (after_invoked names env to xs)
 
+-- a receiver and its arguments
 invoked_typed : (names : Names) (env : Env) (to : Receiver) (ps : List Slot) (xs : List Expr) (n : Named env Looks (is_this to) (receiver_word to)) → AreKnown names → Knows env → (length ps == length xs) ≡ true → AllHold (exprs_types names xs) → AllHold (invoked names env to (Some ps) xs) → Invoked names env to n.t ps xs
 unfolding invoked after_invoked
 invoked_typed names env to ps xs n w k l v (join h i) =
@@ -139,6 +143,7 @@ record Takes (m : Option Signature) (n : ℕ) : Type 0 where
   is : m ≡ Some method
   long : (length method.params == n) ≡ true
 
+-- what takes so many arguments is there
 takes_there : (m : Option Signature) (n : ℕ) → takes (params_of m) n ≡ true → Takes m n
 takes_there None n e = absurd (grind arith)
 takes_there (Some d) n e = record { method = d; is = refl; long = e }
@@ -153,6 +158,7 @@ record Fits (f : Option Signature) (n : ℕ) (t : Ty) : Type 0 where
   takes : first.ty ≡ t
   long : (length rest == n) ≡ true
 
+-- what takes the value and so many arguments is there
 fits_there : (f : Option Signature) (n : ℕ) (t : Ty) → applies f n (Some t) ≡ true → Fits f n t
 fits_there None n t e = absurd (grind arith)
 fits_there (Some d) n t e = go d.params refl e
@@ -166,6 +172,14 @@ fits_there (Some d) n t e = go d.params refl e
 -- the premises of its further arguments
 further_hold : (names : Names) (env : Env) (f : Option Signature) (n : ℕ) (t : Ty) (xs : List Expr) (fits : Fits f n t) → AllHold (arguments_of names env (further f) xs) → AllHold (arguments_of names env (Some fits.rest) xs)
 further_hold names env f n t xs fits h = subst (λ z. AllHold (arguments_of names env (Some (rest_of z)) xs)) fits.params (subst (λ z. AllHold (arguments_of names env (further z) xs)) fits.is h)
+
+-- what is made of its result
+fits_result : (f : Option Signature) (n : ℕ) (t : Ty) (make : Ty → Ty) (fits : Fits f n t) → option_map make (result_of f) ≡ Some (make fits.function.result)
+fits_result f n t make fits = ap (λ z. option_map make (result_of z)) fits.is
+
+-- a function with its arguments
+fits_applies : (ctx : Context) (env last : Env) (f : Name) (t : Ty) (xs : List Expr) (fits : Fits (function_of ctx.tables f.word) (length xs) t) → AreArguments ctx.tables.names env fits.rest xs last → Applies ctx env f t xs fits.function.result last
+fits_applies ctx env last f t xs fits a = record { function = fits.function; first = fits.first; further = fits.rest; is = fits.is; params = fits.params; takes = fits.takes; arguments = a; gives = refl }
 
 -- a field of whose type something is asked
 pub field_there : (want : Ty → Bool) (o : Option Ty) → field_fits want o ≡ true → (t : Ty) × (o ≡ Some t) × (want t ≡ true)
@@ -186,12 +200,14 @@ abbrev Tells : Context → Env → SourceForm → Outcome → Type 0
 Tells ctx env src o = AllHold (source_types ctx.tables.names src) → AllHold o.parts → o.own.1 ≡ true → o.more.1 ≡ true → SourceSound ctx env src o
 
 module _ (ctx : Context) (env : Env) (w : AreKnown ctx.tables.names) (k : Knows env) where
+  -- a part of the type of an operand
   part_sound : (src : SourceForm) (r : Rule) (of : Ty → Option Ty) (make : Ty → Ty) (x : Expr) → ((p : Operand ctx.tables.names env x) (u : Ty) → of p.t ≡ Some u → Gives ctx env src (make u) env) → AllHold (expr_types ctx.tables.names x) → AllHold (part ctx env r of make x).parts → (part ctx env r of make x).own.1 ≡ true → SourceSound ctx env src (part ctx env r of make x)
   part_sound src r of make x typed v h own =
       let p = operand_typed ctx.tables.names env x w k v h in
       let u = some_there (of p.t) (rw p.ty at own) in
       record { t = make u.0; typed = typed p u.0 u.1; ty = ap (λ z. option_map make (option_and_then of z)) p.ty ∙ ap (option_map make) u.1; knows = k }
 
+  -- two trees of one type
   trees_sound : (src : SourceForm) (x y : Expr) → ((t : Ty) → Copied ctx.tables.names env x (ty.Par t) → Copied ctx.tables.names env y (ty.Par t) → Gives ctx env src (ty.Par t) env) → AllHold (expr_types ctx.tables.names x ⨾ expr_types ctx.tables.names y) → AllHold (trees ctx env x y).parts → (trees ctx env x y).own.1 ≡ true → SourceSound ctx env src (trees ctx env x y)
   trees_sound src x y typed (join v v') (join h h') own =
       let p = operand_typed ctx.tables.names env x w k v h in
@@ -203,6 +219,7 @@ module _ (ctx : Context) (env : Env) (w : AreKnown ctx.tables.names) (k : Knows 
       let is : p.t ≡ ty.Par u.0 = tree_is p.t u.0 u.1 in
       record { t = ty.Par u.0; typed = typed u.0 (as_type p (ty.Par u.0) is) (as_type q (ty.Par u.0) (sym (same_is p.t q.t b.1) ∙ is)); ty = p.ty ∙ ap Some is; knows = k }
 
+  -- a function for a part of the type of an operand
   applied_sound : (src : SourceForm) (r : Rule) (of : Ty → Option Ty) (make : Ty → Ty) (x : Expr) (f : Name) (xs : List Expr) → ((p : Operand ctx.tables.names env x) (v u : Ty) (last : Env) → of p.t ≡ Some v → Applies ctx env f v xs u last → Gives ctx env src (make u) last) → AllHold (expr_types ctx.tables.names x ⨾ exprs_types ctx.tables.names xs) → AllHold (applied ctx env r of make x f xs).parts → (applied ctx env r of make x f xs).own.1 ≡ true → SourceSound ctx env src (applied ctx env r of make x f xs)
   applied_sound src r of make x f xs typed (join v vs) (join h i) own =
       let p = operand_typed ctx.tables.names env x w k v h in
@@ -213,11 +230,12 @@ module _ (ctx : Context) (env : Env) (w : AreKnown ctx.tables.names) (k : Knows 
       let g = asked_typed ctx.tables.names env fits.rest xs w k fits.long vs (further_hold ctx.tables.names env function (length xs) u.0 xs fits i) in
       record {
         t = make fits.function.result;
-        typed = typed p u.0 fits.function.result (after_args ctx.tables.names env xs) u.1 (record { function = fits.function; first = fits.first; further = fits.rest; is = fits.is; params = fits.params; takes = fits.takes; arguments = g.typed; gives = refl });
-        ty = ap (λ z. option_map make (result_of z)) fits.is;
+        typed = typed p u.0 fits.function.result (after_args ctx.tables.names env xs) u.1 (fits_applies ctx env (after_args ctx.tables.names env xs) f u.0 xs fits g.typed);
+        ty = fits_result function (length xs) u.0 make fits;
         knows = g.knows;
       }
 
+  -- a call
   pub call_sound : (to : Receiver) (m : Name) (xs : List Expr) → Tells ctx env (s.Call to m xs) (call ctx env to m xs)
   call_sound to m xs v h own more =
       let method : Option Signature = called ctx.tables (receiver_type env to) m.word in
@@ -229,6 +247,7 @@ module _ (ctx : Context) (env : Env) (w : AreKnown ctx.tables.names) (k : Knows 
       let enter : may_enter to (Some d.method) (Some n.t) ≡ true = subst (λ z. may_enter to z (Some n.t) ≡ true) d.is (subst (λ z. may_enter to method z ≡ true) n.ty more) in
       record { t = d.method.result; typed = t.call n.t d.method i.typed c.0 is enter; ty = ap result_of d.is; knows = i.knows }
 
+  -- a send
   pub send_sound : (to : Receiver) (m : Name) (xs : List Expr) → Tells ctx env (s.Send to m xs) (send ctx env to m xs)
   send_sound to m xs v h own more =
       let method : Option Signature = sent ctx.tables (receiver_type env to) m.word in
@@ -242,6 +261,7 @@ module _ (ctx : Context) (env : Env) (w : AreKnown ctx.tables.names) (k : Knows 
 
   -- ---- each source
 
+  -- each source, by its shape
   pub source_sound : (src : SourceForm) → Tells ctx env src (outcome ctx env src)
   unfolding outcome
   source_sound (s.Expr x) v h own more =

@@ -46,9 +46,11 @@ there : (o : Option Var) (t : Ty) → ty_of o ≡ Some t → is_some o ≡ true
 there None t e = absurd (grind arith)
 there (Some v) t e = refl
 
+-- a statement by its layer
 done_at : (ctx : Context) (env last : Env) (x : Stmt) → ((s : Span) → Done ctx env (act_form (seen (out-StmtForm x.form)) s) last) → Done ctx env (act x) last
 done_at ctx env last x f = subst (λ a. Done ctx env a last) (sym (act_layer x)) (f x.span)
 
+-- a condition
 condition_done : (ctx : Context) (env : Env) (x : Expr) (r : Rule) → Copied (names_of ctx) env x ty.Bool → AllHold (condition ctx env r x)
 condition_done ctx env x r d =
     let f = copied_fine d in
@@ -63,6 +65,7 @@ record Printed (ctx : Context) (env : Env) (xs : List Expr) : Type 0 where
   hold : AllHold (each (expr_premises (names_of ctx) env Copies) xs)
   plain : every (prints ctx env) xs ≡ true
 
+-- values that can be printed
 prints_done : (ctx : Context) (env : Env) {xs : List Expr} → AllPrint (names_of ctx) env xs → Printed ctx env xs
 prints_done ctx env t.end = record { hold = nothing; plain = refl }
 prints_done ctx env (t.more {x = x} {xs = xs} t' d p r) =
@@ -71,6 +74,7 @@ prints_done ctx env (t.more {x = x} {xs = xs} t' d p r) =
     record { hold = join f.hold g.hold; plain = and_true (prints ctx env x) (every (prints ctx env) xs) (rw f.ty p) g.plain }
 
 mutual
+  -- each statement
   pub done : {ctx : Context} {env last : Env} {l : Layer} → Types ctx env l last → (s : Span) → Done ctx env (act_form (seen l) s) last
   done {ctx = ctx} {env = env} (t.binds {x = x} {src = src} t' g fresh wait) s =
       let f = source_done g in
@@ -130,6 +134,7 @@ mutual
       record { hold = join f.hold (one f.plain); after = refl }
   done (t.suspends a) s = record { hold = one (ap not a); after = refl }
 
+  -- statements one after another
   pub all_done : {ctx : Context} {env last : Env} {xs : List Stmt} → TypesAll ctx env xs last → AllDone ctx env (acts xs) last
   all_done t.none = record { hold = nothing; after = refl }
   all_done {ctx = ctx} {env = env} (t.some {x = x} {xs = xs} mid d r) =

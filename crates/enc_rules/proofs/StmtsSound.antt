@@ -90,6 +90,7 @@ abbrev Tells : Context → Env → Layer → Type 0
 Tells ctx env l = AllHold (stmt_form ctx.tables.names (asks ctx.tables.names l)) → (s : Span) → AllHold ((act_form (seen l) s).premises ctx env) → Sound ctx env l (act_form (seen l) s)
 
 mutual
+  -- each statement
   pub sound : {l : Layer} → Built l → (ctx : Context) (env : Env) → AreKnown ctx.tables.names → Knows env → Tells ctx env l
   sound (binds {x} {src}) ctx env w k v s (join h (join (one n) (join (one o) (join (one m) (one a))))) =
       let f = source_sound ctx env w k src.form v h o m in
@@ -162,6 +163,7 @@ mutual
   sound (writes {xs}) ctx env w k v s (join h (one m)) = record { typed = t.prints (prints_sound ctx env xs w k v h m); knows = k }
   sound suspends ctx env w k v s (one a) = record { typed = t.suspends (flip _ a); knows = k }
 
+  -- statements one after another
   pub sound_all : {xs : List Stmt} → BuiltAll xs → (ctx : Context) (env : Env) → AreKnown ctx.tables.names → Knows env → AllHold (in_row (map (stmt_types ctx.tables.names) xs)) → AllHold (all_premises ctx env (acts xs)) → AllSound ctx env xs
   sound_all end ctx env w k v h = record { typed = t.none; knows = k }
   sound_all (more {x} {xs} d r) ctx env w k (join v vs) (join h i) =

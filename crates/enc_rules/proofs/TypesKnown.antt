@@ -58,9 +58,11 @@ unfolding group_premises are_traits
 groups_known names [] h = refl
 groups_known names (g ∷ gs) (join (one h) i) = rw (all_there_known (λ n. trait_named names n.word) g.names h, groups_known names gs i) refl
 
+-- the type of several traits
 several_known : (names : Names) (gs : List GroupText) → AllHold (each (group_premises names true) gs) → is_some (type_of_groups names gs) ≡ true
 several_known names gs h = mapped_known _ _ (all_there_known _ gs (groups_known names gs h))
 
+-- the type of one group
 only_known : (names : Names) (k : ClassesKnown names) (g : GroupText) → AllHold (group_premises names (many_names g.names) g) → is_some (only_group names g g.names) ≡ true
 unfolding group_premises are_types type_named
 only_known names k g h = go g.names refl h
@@ -72,6 +74,7 @@ only_known names k g h = go g.names refl h
         alone_known (found names x.word) (k x.word) (both_true (is_type (found names x.word)) true t).0
     go (x ∷ y ∷ ns) e h = several_known names (g ∷ []) (join h nothing)
 
+-- the type of groups
 named_known : (names : Names) (k : ClassesKnown names) (gs : List GroupText) → AllHold (each (group_premises names (several gs)) gs) → is_some (named_type names gs) ≡ true
 named_known names k [] h = refl
 named_known names k (g ∷ []) (join h i) = only_known names k g h
@@ -83,17 +86,21 @@ named_known names k (g ∷ j ∷ gs) h = several_known names (g ∷ j ∷ gs) h
 abbrev Known : Written → Type 0
 Known w = AllHold w.premises → is_some w.ty ≡ true
 
+-- what is made of a known type of which something holds
 where_known : (f : Ty → Bool) (make : Ty → Option Ty) → ((v : Ty) → f v ≡ true → is_some (make v) ≡ true) → (o : Option Ty) → is_some o ≡ true → if_known f o ≡ true → is_some (option_and_then make (where_it f o)) ≡ true
 where_known f make k None h m = absurd (grind arith)
 where_known f make k (Some v) h m = subst (λ b. is_some (option_and_then make (cond b (Some v) None)) ≡ true) (sym m) (k v m)
 
+-- a type that is made of a part
 made_known : (f : Ty → Bool) (make : Ty → Option Ty) (w : Written) (s : Span) → ((v : Ty) → f v ≡ true → is_some (make v) ≡ true) → Known w → Known (made f make w s)
 made_known f make w s k j (join h (one m)) = where_known f make k w.ty (j h) m
 
+-- nothing is made of it
 same_option : (o : Option Ty) → option_and_then (λ v. Some v) o ≡ o
 same_option None = refl
 same_option (Some v) = refl
 
+-- a capability type, or a class
 cap_known : (names : Names) (k : ClassesKnown names) (gs : List GroupText) (s : Span) → Known (cap_written names gs s)
 cap_known names k gs s (join h (one m)) = subst (λ o. is_some o ≡ true) (same_option _) (where_known is_composed (λ v. Some v) (λ v e. refl) (named_type names gs) (named_known names k gs h) m)
 
@@ -102,18 +109,23 @@ module _ (names : Names) (classes : ClassesKnown names) where
   abbrev form_written : TypeForm → Span → Written
   form_written = fold-TypeForm (Span → Written) Written (write_form names) write_node
 
+  -- a layer is known where what is asked of it holds
   abbrev KnownLayer : TypeForm-F TypeForm TypeText → Type 0
   KnownLayer l = (s : Span) → Known (write_form names (map-TypeForm TypeForm TypeText (Span → Written) Written form_written (fold-TypeText (Span → Written) Written (write_form names) write_node) l) s)
 
+  -- a written type by its layer
   known_text : (t : TypeText) → KnownLayer (out-TypeForm t.form) → Known (fold-TypeText (Span → Written) Written (write_form names) write_node t)
   known_text t k = subst Known (sym (fold_out-TypeText (Span → Written) Written (write_form names) write_node t ∙ ap (λ z. z t.span) (fold_out-TypeForm (Span → Written) Written (write_form names) write_node t.form))) (k t.span)
 
+  -- forms that are known
   abbrev F : Type 0
   F = (form : TypeForm) × KnownLayer (out-TypeForm form)
 
+  -- written types that are known
   abbrev E : Type 0
   E = (t : TypeText) × KnownLayer (out-TypeForm t.form)
 
+  -- a layer of what is known
   known_form : (y : TypeForm-F F E) → KnownLayer (map-TypeForm F E TypeForm TypeText (λ z. z.0) (λ z. z.0) y)
   known_form TypeForm-F.Int = λ s h. refl
   known_form TypeForm-F.Bool = λ s h. refl
@@ -125,6 +137,7 @@ module _ (names : Names) (classes : ClassesKnown names) where
   known_form (TypeForm-F.Bestowed p) = λ s. made_known _ _ _ s (λ v e. mapped_known ty.Bestowed (local_of v) e) (known_text p.0 p.1)
   known_form (TypeForm-F.Cap gs) = cap_known names classes gs
 
+  -- each form is known
   known_all : (form : TypeForm) → KnownLayer (out-TypeForm form)
   known_all = ind-TypeForm (λ form. KnownLayer (out-TypeForm form)) (λ t. KnownLayer (out-TypeForm t.form))
       (λ x y is. subst KnownLayer (is ∙ sym (out-roll-TypeForm x)) (known_form y))
