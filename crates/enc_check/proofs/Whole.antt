@@ -1,6 +1,5 @@
 -- What the answer for the whole program tells.
-use Rattle.std.proofs.Common.{◌≡◌, Option, Some, None}
-use Rattle.enc_ast.specs.declared.rules.Reject.{Reject}
+use Rattle.std.proofs.Common.{Option, Some, None}
 use Rattle.enc_ast.specs.declared.rules.Fail.{Fail}
 use Rattle.enc_ast.specs.declared.rules.Fail.TheVariants as fail
 use Rattle.enc_premises.specs.Premises.{Premises}

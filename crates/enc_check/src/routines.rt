@@ -6,7 +6,6 @@ ghost use Rattle.enc_premises.specs.Passing.{Passes, MemoryOnly};
 ghost use Rattle.enc_names.specs.Members.{type_or_unit as unit_or_type};
 ghost use Rattle.enc_rules.specs.Context.{this_type as type_of_this};
 ghost use Rattle.enc_rules.specs.Programs as spec;
-ghost use Rattle.enc_rules.specs.Stmts as st;
 
 use crate::returning::last_returns;
 use crate::stmts::in_order;
