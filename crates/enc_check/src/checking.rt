@@ -4,11 +4,30 @@ ghost use Rattle.enc_premises.specs.Passing.{Passes, Tells, Accepts};
 ghost use Rattle.enc_decls.specs.Rules.{table_premises};
 ghost use Rattle.enc_names.specs.Members.{tables_of};
 ghost use Rattle.enc_rules.specs.Programs as spec;
+ghost use Rattle.enc_rules.specs.WellTyped.{WellTyped};
+ghost use Rattle.enc_check.specs.Answers.{Checks, Spares};
 
 use crate::routines::bodies;
 use enc_ast::{Fail, Program};
 use enc_names::{Tables, tables};
+use enc_rules::Checked;
 use std::alloc::Global;
+
+/// The program with its tables, where it keeps all rules. Otherwise the program is dropped, and the answer
+/// is which rule fails first and at which node, or that memory ran out.
+#[tactic(auto, using(crate::proofs::Whole::checked))]
+pub fn check(alloc: Global, program: Program) -> Result<Checked, Fail>
+    ensures kept { IfOk result (λ checked. checked ≡ program) }
+
+    // Ok: it is well typed. Reject: this is its first failure.
+    ensures tells { Checks result program }
+
+    // What is well typed is not refused.
+    ensures spares { Spares result program }
+{
+    let tables = judge(alloc, &program)?;
+    Ok(Checked::new(program, tables))
+}
 
 /// The tables of a program, where it keeps all rules. Otherwise it answers which rule fails first and at
 /// which node, or that memory ran out: also where more than 1,024 variables would be visible somewhere.

@@ -9,7 +9,7 @@ mod routines;
 mod stmts;
 mod variables;
 
-pub use checking::judge;
+pub use checking::{check, judge};
 pub use returning::last_returns;
 pub use routines::{bodies, routine};
 pub use stmts::{in_order, stmt};

@@ -1,6 +1,8 @@
 //! The rules of statements and programs, and what they come to.
 #![tactic(auto)]
 
+mod checked;
 mod laws;
 
+pub use checked::Checked;
 pub use laws::{one_answer, rules_agree};
