@@ -1,6 +1,6 @@
 // The rules of expressions: what is refused, by which rule and where, and what has which type.
 
-use crate::marked::{joined, unmarked};
+use crate::marked::{count, joined, unmarked};
 use enc_ast::{Decl, Expr, Fail as Refusal, Program, Reject, Span, StmtForm, Word};
 use enc_exprs::{Use, expr_type};
 use enc_flow::Env;
@@ -94,7 +94,7 @@ fn check_refused(rt: &impl Abort, alloc: Global, rows: &str) -> Result<(), Fail>
 
 /// The place of a part of the expression in the whole text.
 fn behind_head(span: Span) -> Span {
-    let before = HEAD.len() as u32;
+    let before = count(HEAD);
     Span {
         start: span.start.saturating_add(before),
         end: span.end.saturating_add(before),

@@ -11,4 +11,6 @@ pub mod marked;
 #[cfg(test)]
 mod modes;
 #[cfg(test)]
+mod statements;
+#[cfg(test)]
 mod variables;

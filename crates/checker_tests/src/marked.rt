@@ -29,10 +29,15 @@ pub fn unmarked(alloc: Global, row: &str) -> Result<Option<Marked>, AllocError> 
         return Ok(None);
     };
     let text = joined(alloc, before, inside, after)?;
-    let start = before.len() as u32;
-    let end = start.saturating_add(inside.len() as u32);
+    let start = count(before);
+    let end = start.saturating_add(count(inside));
     Ok(Some(Marked {
         text,
         span: Span { start, end },
     }))
+}
+
+/// How many bytes a text has, or the greatest number where it has more.
+pub fn count(text: &str) -> u32 {
+    u32::try_from(text.len()).unwrap_or(u32::MAX)
 }

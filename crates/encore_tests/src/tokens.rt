@@ -118,7 +118,10 @@ fn words_and_symbols_are_tokens(rt: HostRuntime) -> Result<(), Fail> {
     let alloc = rt.alloc();
     assert_eq!(rt; WORDS.len(), 82);
     for &(word, kind) in WORDS {
-        let due = token(kind, 0, word.len() as u32);
+        let Ok(end) = u32::try_from(word.len()) else {
+            panic!(rt; "a short word")
+        };
+        let due = token(kind, 0, end);
         assert_eq!(rt; lex(alloc, word.as_bytes())?.as_slice(), [due].as_slice());
     }
     Ok(())
