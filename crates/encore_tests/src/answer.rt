@@ -38,12 +38,12 @@ pub fn unrun(status: u8, said: &str) -> Due<'_> {
     }
 }
 
-/// The line of a text that spells a program of another form.
-pub const STAGE_LINE: &str = "p.enc:1:1: STAGE\n";
+/// The line of a text that has no class `Main`.
+pub const EMPTY_LINE: &str = "p.enc:1:1: K-MAIN\n";
 
-/// The text spells a program of another form.
+/// The text has no class `Main`.
 pub fn refused() -> Due<'static> {
-    unrun(1, STAGE_LINE)
+    unrun(1, EMPTY_LINE)
 }
 
 /// The status with which a call ended, and what it left behind.

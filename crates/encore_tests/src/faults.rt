@@ -1,6 +1,6 @@
 // Runs in which a call of the outside fails.
 
-use crate::answer::{Answer, Due, STAGE_LINE, ended, run, unrun};
+use crate::answer::{Answer, Due, EMPTY_LINE, ended, run, unrun};
 use crate::outside::{Flow, HELLO, OPEN, Setting, narrow, program, run_of};
 use std::alloc::{AllocError, Global};
 use std::process::Abort;
@@ -97,7 +97,7 @@ fn nothing_is_written_where_nothing_is_due(rt: HostRuntime) -> Result<(), Fail> 
     let empty = run_of(b"");
     let out = narrow(1);
     let answer = run(rt.alloc(), Setting { out, ..empty })?;
-    answer.check(&rt, "a refused text", unrun(1, STAGE_LINE));
+    answer.check(&rt, "a refused text", unrun(1, EMPTY_LINE));
     assert_eq!(rt; answer.outside.out.faults(), 0);
     Ok(())
 }
@@ -161,7 +161,7 @@ fn both_streams_can_fail(rt: HostRuntime) -> Result<(), Fail> {
 #[test]
 fn refusals_are_told_in_part(rt: HostRuntime) -> Result<(), Fail> {
     let empty = run_of(b"");
-    for (fault, said) in [(1, ""), (17, "p.enc:1:1: STAGE")] {
+    for (fault, said) in [(1, ""), (18, "p.enc:1:1: K-MAIN")] {
         let err = narrow(fault);
         let answer = run(rt.alloc(), Setting { err, ..empty })?;
         answer.check(&rt, said, unrun(1, said));

@@ -1,13 +1,14 @@
 // Texts of the whole language: what is read, and where it first fails.
 
 use crate::answer::{check_lines, ended, run, unrun};
-use crate::outside::{HELLO, run_of};
+use crate::outside::{HELLO, program, run_of};
 use enc_lex::lex;
+use enc_parse::parse;
 use std::alloc::{AllocError, Global};
 use std::process::Abort;
 use std::test::Fail;
 
-/// Declarations that are read. Nothing of them runs yet.
+/// Declarations that are read, whatever the checker says of them.
 const DECLARATIONS: &str = "
 linear trait T { n: int; f: Fut[Par[List[Bestowed[T]]]]; def m(a: bool, b: text): unit { } }
 local trait T { }
@@ -24,13 +25,17 @@ class a = b; class a = b; class a = b;";
 #[test]
 fn declarations_are_read(rt: HostRuntime) -> Result<(), Fail> {
     for text in DECLARATIONS.split('\n') {
-        let outside = run(rt.alloc(), run_of(text.as_bytes()))?;
-        outside.check(&rt, text, unrun(1, "p.enc:1:1: STAGE\n"));
+        check_read(&rt, rt.alloc(), text);
     }
     Ok(())
 }
 
-/// Statements that are read. Nothing of them runs yet.
+/// Asserts that a text spells a program.
+fn check_read(rt: &impl Abort, alloc: Global, text: &str) {
+    assert!(rt; parse(alloc, text.as_bytes()).is_ok(), "{text}");
+}
+
+/// Statements that are read, whatever the checker says of them.
 const STATEMENTS: &str = "let a = new C;
 let a = this.n;
 let a = take this.n;
@@ -76,7 +81,8 @@ print len(x), isnull(x), at(x, 0), append(x, 1), \"t\", unit;";
 #[test]
 fn statements_are_read(rt: HostRuntime) -> Result<(), Fail> {
     for line in STATEMENTS.split('\n') {
-        check_lines(&rt, rt.alloc(), line, unrun(1, "p.enc:1:1: STAGE\n"))?;
+        let text = program(rt.alloc(), line)?;
+        check_read(&rt, rt.alloc(), text.as_str());
     }
     Ok(())
 }
@@ -230,7 +236,8 @@ fn check_limit(
 ) -> Result<(), AllocError> {
     let [head, part, tail] = texts;
     let most = repeated(alloc, head, part, times, tail)?;
-    check_lines(rt, alloc, most.as_str(), unrun(1, "p.enc:1:1: STAGE\n"))?;
+    let read = program(alloc, most.as_str())?;
+    check_read(rt, alloc, read.as_str());
     let more = repeated(alloc, head, part, times.saturating_add(1), tail)?;
     check_lines(rt, alloc, more.as_str(), unrun(1, line))
 }
@@ -296,7 +303,6 @@ fn brackets(alloc: Global, depth: usize) -> Result<String, AllocError> {
 #[test]
 fn limits_of_variables(rt: HostRuntime) -> Result<(), Fail> {
     let alloc = rt.alloc();
-    let stage = unrun(1, "p.enc:1:1: STAGE\n");
     check_limit(
         &rt,
         alloc,
@@ -305,10 +311,11 @@ fn limits_of_variables(rt: HostRuntime) -> Result<(), Fail> {
         "p.enc:256:5: P-LIMIT\n",
     )?;
     let blocks = repeated(alloc, "", "if true { let v = 1; }\n", 300, "")?;
-    check_lines(&rt, alloc, blocks.as_str(), stage)?;
+    check_lines(&rt, alloc, blocks.as_str(), unrun(1, "p.enc:1:1: STAGE\n"))?;
     let second = "pack x and y into z { } else { let a = 1; }";
     let fits = repeated(alloc, "", "let v = 1;\n", 253, second)?;
-    check_lines(&rt, alloc, fits.as_str(), stage)?;
+    let fits = program(alloc, fits.as_str())?;
+    check_read(&rt, alloc, fits.as_str());
     let first = "pack x and y into z { let a = 1; } else { }";
     let passes = repeated(alloc, "", "let v = 1;\n", 253, first)?;
     check_lines(
@@ -330,8 +337,7 @@ fn check_whole_limit(
 ) -> Result<(), AllocError> {
     let [head, part, tail] = texts;
     let most = repeated(alloc, head, part, times, tail)?;
-    let read = run(alloc, run_of(most.as_bytes()))?;
-    read.check(rt, "the most parts", unrun(1, "p.enc:1:1: STAGE\n"));
+    check_read(rt, alloc, most.as_str());
     let more = repeated(alloc, head, part, times.saturating_add(1), tail)?;
     let refused = run(alloc, run_of(more.as_bytes()))?;
     refused.check(rt, "one part more", unrun(1, line));
@@ -352,8 +358,7 @@ fn limits_of_declarations(rt: HostRuntime) -> Result<(), Fail> {
     let written = ["fun f(x: (A", " or A", ")): unit { }"];
     check_whole_limit(&rt, alloc, written, 63, "p.enc:1:331: P-LIMIT\n")?;
     let wide = repeated(alloc, "fun f(x: A", " and A", 70, "): unit { }")?;
-    let read = run(alloc, run_of(wide.as_bytes()))?;
-    read.check(&rt, "a type of many groups", unrun(1, "p.enc:1:1: STAGE\n"));
+    check_read(&rt, alloc, wide.as_str());
     Ok(())
 }
 

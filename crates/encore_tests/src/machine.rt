@@ -20,7 +20,8 @@ fn machine(rt: &impl Abort, alloc: Global, lines: &str) -> Result<Plain, Fail> {
     never_stuck(&tree);
     never_blocked(&tree);
     stops_soon(&tree);
-    Ok(Plain::of(alloc, tree)?)
+    thin_accepted(&tree);
+    Ok(Plain::of(alloc, check(alloc, tree)?)?)
 }
 
 /// Makes the next step of actor 0, and asserts its kind.

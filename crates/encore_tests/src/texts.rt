@@ -96,17 +96,17 @@ print 5;¶print 1, 9223372036854775807 + 1, 2; => 5¶ => 3:1
 print "ü"; print 9223372036854775807 + 1; => ü¶ => 2:13"#;
 
 /// Statements that are refused, each behind the rule and the place.
-const REFUSED: &str = r#"STAGE 1:1 print x;
-STAGE 1:1 print x; let x = 1;
-STAGE 1:1 let x = x;
-STAGE 1:1 let x = 1 + x;
-STAGE 1:1 let x = 1; let x = 2;
-STAGE 1:1 let args = 1;
-STAGE 1:1 print args;
-STAGE 1:1 let a = 1; print A;
+const REFUSED: &str = r#"E-VAR 2:7 print x;
+E-VAR 2:7 print x; let x = 1;
+E-VAR 2:9 let x = x;
+E-VAR 2:13 let x = 1 + x;
+S-LET 2:12 let x = 1; let x = 2;
+S-LET 2:1 let args = 1;
+S-PRINT 2:1 print args;
+E-VAR 2:18 let a = 1; print A;
 P-FORM 2:5 let while = 1;
 P-FORM 2:5 let true = 1;
-STAGE 1:1 print this;
+S-PRINT 2:1 print this;
 P-FORM 2:5 let 1x = 2;
 P-FORM 2:6 let a-b = 1;
 P-TOKEN 2:7 print 9223372036854775808;
@@ -121,7 +121,7 @@ P-TOKEN 2:7 print ١;
 P-TOKEN 2:7 print "a;
 P-TOKEN 2:7 print "a\q";
 P-TOKEN 2:7 print "a\";
-STAGE 1:1 print "a" + "b";
+E-TYPE 2:7 print "a" + "b";
 STAGE 1:1 let x = "a";
 P-FORM 2:10 print "a""b";
 P-FORM 2:6 print;
@@ -133,20 +133,20 @@ P-FORM 2:7 let x == 1;
 STAGE 1:1 print 1 == 1;
 P-FORM 2:10 let x = 1, y = 2;
 STAGE 1:1 let x = 1; x = 2;
-STAGE 1:1 return 1;
+S-RETURN 2:1 return 1;
 P-FORM 2:7 Print 1;
 STAGE 1:1 let x = new Main;
 P-TOKEN 2:7 print "a¶b";"#;
 
 /// Texts that are refused, each behind the rule and the place.
-const REFUSED_TEXTS: &str = r#"STAGE 1:1 active class Main { }
+const REFUSED_TEXTS: &str = r#"K-MAIN 1:1 active class Main { }
 P-FORM 1:12 class Main { def main(args: List[int]): unit { } }
-STAGE 1:1 active class main { def main(args: List[int]): unit { } }
-STAGE 1:1 active class Main { def run(args: List[int]): unit { } }
-STAGE 1:1 active class Main { def main(): unit { } }
-STAGE 1:1 active class Main { def main(args: List[bool]): unit { } }
-STAGE 1:1 active class Main { def main(args: int): unit { } }
-STAGE 1:1 active class Main { def main(args: List[int]): int { } }
+K-MAIN 1:1 active class main { def main(args: List[int]): unit { } }
+K-MAIN 1:1 active class Main { def run(args: List[int]): unit { } }
+K-MAIN 1:1 active class Main { def main(): unit { } }
+K-MAIN 1:1 active class Main { def main(args: List[bool]): unit { } }
+K-MAIN 1:1 active class Main { def main(args: int): unit { } }
+K-MAIN 1:1 active class Main { def main(args: List[int]): int { } }
 STAGE 1:1 active class Main { count: int; def main(args: List[int]): unit { } }
 STAGE 1:1 active class Main { def main(args: List[int]): unit { } def more(): unit { } }
 STAGE 1:1 active class Main { def main(args: List[int]): unit { } } active class More { }
@@ -244,7 +244,7 @@ fn refuses_texts(rt: HostRuntime) -> Result<(), Fail> {
 /// The rule and the column at which the first `end` bytes of the program of one line are refused.
 fn failure_of(end: u32) -> (&'static str, u32) {
     match end {
-        0 => ("STAGE", 1),
+        0 => ("K-MAIN", 1),
         1..=5 => ("P-FORM", 1),
         7..=11 => ("P-FORM", 8),
         61..=63 => ("P-TOKEN", 61),
