@@ -45,6 +45,8 @@ pub struct Shape {
     pub made: Made,
 }
 
+// What each source asks of its operand.
+
 pub const GET: Shape = Shape {
     rule: Rule::SGet,
     part: Part::Future,
