@@ -13,7 +13,7 @@ ghost use Rattle.enc_rules.specs.Sources as sources;
 ghost use Rattle.enc_rules.specs.Stmts as spec;
 
 use crate::variables::{declare, is_free, use_up};
-use enc_ast::{Expr, Fail, Name, Receiver, Rule, SourceForm, Span};
+use enc_ast::{Expr, Fail, Name, Receiver, Row, Rule, SourceForm, Span};
 use enc_exprs::{Use, expr_type, is_bool, is_plain, regain, type_in, visible};
 use enc_flow::Env;
 use enc_modes::Ty;
@@ -134,13 +134,13 @@ pub fn call_method(
     env: &mut Env,
     to: &Receiver,
     name: &Name,
-    args: &[Expr],
+    args: &Row<Expr>,
     span: Span,
 ) -> Result<(), Fail>
     ensures premises { Passes result (spec.call_premises context.now env.old to.now name.now args.now span) }
     ensures after { OnOk result (env.new ≡ (sources.call context.now env.old to.now name.now args.now).after) }
 {
-    let outcome = call(alloc, context, env, to, name, args)?;
+    let outcome = call(alloc, context, env, to, name, args.as_slice())?;
     ask_three(span, outcome.own, outcome.more, outside(context))
 }
 
@@ -152,13 +152,13 @@ pub fn send_message(
     env: &mut Env,
     to: &Receiver,
     name: &Name,
-    args: &[Expr],
+    args: &Row<Expr>,
     span: Span,
 ) -> Result<(), Fail>
     ensures premises { Passes result (spec.send_premises context.now env.old to.now name.now args.now span) }
     ensures after { OnOk result (env.new ≡ (sources.send context.now env.old to.now name.now args.now).after) }
 {
-    let outcome = send(alloc, context, env, to, name, args)?;
+    let outcome = send(alloc, context, env, to, name, args.as_slice())?;
     ask(span, outcome.own)?;
     ask(span, outcome.more)
 }

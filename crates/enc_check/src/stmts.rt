@@ -32,42 +32,21 @@ pub fn stmt(alloc: Global, context: &Context<'_>, env: &mut Env, judged: &Stmt) 
     match &judged.form {
         StmtForm::Let(name, source) => bind(alloc, context, env, name, &source.form, span),
         StmtForm::Assign(name, value) => assign(alloc, context, env, name, value, span),
-        StmtForm::Store(place, name, value) => {
-            store(alloc, context, env, *place, name, value, span)
-        }
-        StmtForm::Call(to, name, args) => {
-            call_method(alloc, context, env, to, name, args.as_slice(), span)
-        }
-        StmtForm::Send(to, name, args) => {
-            send_message(alloc, context, env, to, name, args.as_slice(), span)
-        }
+        StmtForm::Store(at, name, value) => store(alloc, context, env, *at, name, value, span),
+        StmtForm::Call(to, name, args) => call_method(alloc, context, env, to, name, args, span),
+        StmtForm::Send(to, name, args) => send_message(alloc, context, env, to, name, args, span),
         StmtForm::If(value, then, other) => {
             branch(alloc, context, env, value, then.as_slice(), other.as_ref())
         }
         StmtForm::While(value, body) => repeat(alloc, context, env, value, body.as_slice(), span),
-        StmtForm::Atomic(owner, body) => {
-            together(alloc, context, env, owner, body.as_slice(), span)
+        StmtForm::Atomic(to, body) => together(alloc, context, env, to, body.as_slice(), span),
+        StmtForm::Split(whole, left, one, right, two) => {
+            split(context, env, whole, (left, one), (right, two), span)
         }
-        StmtForm::Split(whole, left, left_ty, right, right_ty) => split(
-            context,
-            env,
-            whole,
-            (left, left_ty),
-            (right, right_ty),
-            span,
-        ),
-        StmtForm::Pack(left, right, name, one, two) => both(
-            alloc,
-            context,
-            env,
-            (left, right, name),
-            one.as_slice(),
-            two.as_slice(),
-            span,
-        ),
-        StmtForm::Choose(whole, wanted, name) => {
-            choose(alloc, context, env, whole, wanted, name, span)
+        StmtForm::Pack(left, right, name, one, two) => {
+            both(alloc, context, env, (left, right, name), one, two, span)
         }
+        StmtForm::Choose(of, alt, name) => choose(alloc, context, env, of, alt, name, span),
         StmtForm::Return(value) => give_back(alloc, context, env, value, span),
         StmtForm::Print(values) => print(alloc, context, env, values.as_slice(), span),
         StmtForm::Suspend => suspend(context, span),
@@ -206,8 +185,8 @@ fn both(
     context: &Context<'_>,
     env: &mut Env,
     names: (&Name, &Name, &Name),
-    one: &[Stmt],
-    two: &[Stmt],
+    one: &Items<Stmt>,
+    two: &Items<Stmt>,
     span: Span,
 ) -> Result<(), Fail>
     ensures premises { Passes result (spec.pack_premises context.now env.old names.entry.0.now names.entry.1.now names.entry.2.now (spec.acts one.now) (spec.acts two.now) span) }
@@ -219,8 +198,8 @@ fn both(
     move_out(&mut end, left)?;
     move_out(&mut end, right)?;
     let fits = pack(alloc, env, &mut end, names)?;
-    block(alloc, context, &mut end, env.len(), one)?;
-    block(alloc, context, env, env.len(), two)?;
+    block(alloc, context, &mut end, env.len(), one.as_slice())?;
+    block(alloc, context, env, env.len(), two.as_slice())?;
     demand(Rule::SLet, span, free)?;
     demand(Rule::SPack, span, fits)?;
     end.merge(env);
