@@ -2,8 +2,10 @@
 ghost use Rattle.std.specs.Prelude.{IsTrue};
 ghost use Rattle.enc_ast.specs.Thin.{is_thin};
 ghost use Rattle.enc_model.specs.Laws.{NeverStuck, NeverBlocked, StopsSoon};
+ghost use Rattle.enc_rules.specs.WellTyped.{WellTyped};
 
 use enc_ast::Program;
+use enc_thin::thin_is_well_typed;
 
 /// Each step of each run has a meaning. This is a law over the definitions: the call answers nothing,
 /// changes nothing and takes no memory.
@@ -25,3 +27,12 @@ pub fn stops_soon(program: &Program)
     requires { IsTrue (is_thin program.now) }
     ensures { StopsSoon program.now }
 {}
+
+/// A program in the thin form keeps all rules of the checker. This is a law over the definitions: the
+/// call answers nothing, changes nothing and takes no memory.
+pub fn thin_accepted(program: &Program)
+    requires { IsTrue (is_thin program.now) }
+    ensures { WellTyped program.now }
+{
+    thin_is_well_typed();
+}

@@ -15,7 +15,7 @@ mod thin_form;
 mod values;
 
 pub use config::{Actor, Cell, Config, Frame, Message, Task};
-pub use laws::{never_blocked, never_stuck, stops_soon};
+pub use laws::{never_blocked, never_stuck, stops_soon, thin_accepted};
 pub use moves::{Got, Move};
 pub use plain::{Plain, StepFail};
 pub use schedule::{Pair, Phase, Schedule, Stepped};

@@ -10,6 +10,7 @@ ghost use Rattle.enc_model.specs.declared.plain.StepFail.TheVariants.{Memory};
 use crate::steps::{is_ready, make_step};
 use crate::{Actor, Cell, Config, Message, Phase, Stepped};
 use enc_ast::{Program, Row};
+use enc_rules::Checked;
 use std::alloc::{AllocError, Global};
 use std::marker::Model;
 use thiserror::Error;
@@ -60,9 +61,9 @@ impl Model for Plain {
 impl Plain {
     /// The machine at the start of the program's run.
     #[tactic(auto, using(crate::proofs::Runs::machines))]
-    pub fn of(alloc: Global, program: Program) -> Result<Plain, AllocError>
-        requires { IsTrue (is_thin program) }
-        ensures { IfOk result (λ plain. plain ≡ record { program = program; config = start }) }
+    pub fn of(alloc: Global, checked: Checked) -> Result<Plain, AllocError>
+        requires { IsTrue (is_thin checked) }
+        ensures { IfOk result (λ plain. plain ≡ record { program = checked; config = start }) }
     {
         let mut mailbox = Row::new(alloc);
         mailbox.push(Message { cell: 0 })?;
@@ -81,7 +82,7 @@ impl Plain {
         };
         Ok(Plain {
             alloc,
-            program,
+            program: checked.into_program(),
             config,
         })
     }

@@ -9,6 +9,8 @@ use Rattle.enc_io.specs.Texts.{Texts, IsReadOf}
 use Rattle.enc_model.specs.declared.Pair.{Pair}
 use Rattle.enc_parse.specs.Failure.{Refuses}
 use Rattle.enc_parse.specs.Spells.{Spells}
+use Rattle.enc_rules.specs.Programs.{IsFirstFailure}
+use Rattle.enc_rules.specs.WellTyped.{WellTyped}
 use Rattle.encore_run.specs.declared.reply.Reply.{Reply}
 use Rattle.encore_run.specs.declared.status.Status.TheVariants.{Rejected}
 use Rattle.encore_run.specs.declared.words.Command.{Command}
@@ -27,10 +29,15 @@ judgement-of_run file text pairs program (Err e) runs reports = tt
 pub judgement-of_refusal : (file text : List ℕ) (pairs : List Pair) (reply : Reply) (reject : Reject) → Refuses text reject → pairs ≡ [] → reply.status ≡ Rejected → reply.output ≡ [] → reply.line ≡ reject_line file text reject.rule reject.span → IsJudgement file text pairs reply
 judgement-of_refusal file text pairs reply reject refused none status output line = rejected status output none (record { rule = reject.rule; span = reject.span; fails = inl refused; says = line })
 
+-- a refusal of the program by the checker
+pub judgement-of_ill_typed : (file text : List ℕ) (pairs : List Pair) (reply : Reply) (program : Program) (reject : Reject) → Spells text program → IsFirstFailure program reject → pairs ≡ [] → reply.status ≡ Rejected → reply.output ≡ [] → reply.line ≡ reject_line file text reject.rule reject.span → IsJudgement file text pairs reply
+judgement-of_ill_typed file text pairs reply program reject spells first none status output line =
+    rejected status output none (record { rule = reject.rule; span = reject.span; fails = inr (inl (record { program = program; spells = spells; first = first })); says = line })
+
 -- a refusal of a program that isn't built
-pub judgement-of_stage : (file text : List ℕ) (pairs : List Pair) (reply : Reply) (program : Program) → Spells text program → is_thin program ≡ false → pairs ≡ [] → reply.status ≡ Rejected → reply.output ≡ [] → reply.line ≡ reject_line file text Stage program.span → IsJudgement file text pairs reply
-judgement-of_stage file text pairs reply program spells unbuilt none status output line =
-    rejected status output none (record { rule = Stage; span = program.span; fails = inr (record { program = program; spells = spells; unbuilt = unbuilt; stage = refl; all = spells.span }); says = line })
+pub judgement-of_stage : (file text : List ℕ) (pairs : List Pair) (reply : Reply) (program : Program) → Spells text program → WellTyped program → is_thin program ≡ false → pairs ≡ [] → reply.status ≡ Rejected → reply.output ≡ [] → reply.line ≡ reject_line file text Stage program.span → IsJudgement file text pairs reply
+judgement-of_stage file text pairs reply program spells typed unbuilt none status output line =
+    rejected status output none (record { rule = Stage; span = program.span; fails = inr (inr (record { program = program; spells = spells; typed = typed; unbuilt = unbuilt; stage = refl; all = spells.span })); says = line })
 
 -- a judgement on what was read, or no memory
 pub answer-of_judgement : {E : Type 0} (command : Command) (texts : Option Texts) (before now : ℕ) (failed : Option (List ℕ)) (pairs : List Pair) (bytes : List ℕ) (result : Result Reply E) → now ≡ before → IsReadOf texts (source_of command) 1048577 bytes → IfOk result (IsJudgement (source_of command) bytes pairs) → IfOk result (IsAnswer (Some command) texts before now failed pairs)

@@ -51,7 +51,8 @@ tells-read file text bytes line rule span (inl (inl (inl size))) says e =
 tells-read file text bytes line rule span (inl (inl (inr (inl broken)))) says e = tells-whole file text bytes line rule span (inl (inl (inr (inl broken)))) says e broken.short
 tells-read file text bytes line rule span (inl (inl (inr (inr stuck)))) says e = tells-whole file text bytes line rule span (inl (inl (inr (inr stuck)))) says e stuck.short
 tells-read file text bytes line rule span (inl (inr unfit)) says e = tells-whole file text bytes line rule span (inl (inr unfit)) says e unfit.lexes.short
-tells-read file text bytes line rule span (inr unbuilt) says e = tells-whole file text bytes line rule span (inr unbuilt) says e unbuilt.spells.lexes.short
+tells-read file text bytes line rule span (inr (inl ill)) says e = tells-whole file text bytes line rule span (inr (inl ill)) says e ill.spells.lexes.short
+tells-read file text bytes line rule span (inr (inr unbuilt)) says e = tells-whole file text bytes line rule span (inr (inr unbuilt)) says e unbuilt.spells.lexes.short
 
 ran-read : (file text bytes : List ℕ) (pairs : List Pair) (reply : Reply) (program : Program) → Runs bytes program → IsJudgement file bytes pairs reply → bytes ≡ take 1048577 text → IsJudgement file text pairs reply
 ran-read file text bytes pairs reply program runs judgement e =

@@ -14,9 +14,11 @@ use crate::reply::Reply;
 use crate::run::drive;
 use crate::words::{Command, read_words};
 use enc_ast::{Fail, Program, Reject, Rule, Word};
+use enc_check::check;
 use enc_io::{Files, ReadFail, read_all};
 use enc_model::{Config, Phase, Plain, Schedule, thin};
 use enc_parse::parse;
+use enc_rules::Checked;
 use std::alloc::{AllocError, Global};
 
 /// How many bytes a source may have. One more is read, which tells that there are more.
@@ -104,7 +106,32 @@ fn judge_program(
     requires short { length text.now ≤ 1048577 }
     ensures { IfOk result (IsJudgement file.now text.now schedule.new.pairs) }
 {
-    if !thin(&program) {
+    match check(alloc, program) {
+        Err(Fail::Memory) => Err(AllocError),
+        Err(Fail::Reject(broken)) => {
+            let line = reject_line(alloc, file, text, broken)?;
+            Ok(Reply::said(alloc, Status::Rejected, line))
+        }
+        Ok(checked) => judge_checked(alloc, file, text, checked, schedule),
+    }
+}
+
+/// What a program that keeps all rules comes to.
+fn judge_checked(
+    alloc: Global,
+    file: &str,
+    text: &[u8],
+    checked: Checked,
+    schedule: &mut Schedule,
+) -> Result<Reply, AllocError>
+    requires spells { Spells text.now checked }
+    requires few { length (body_of checked) ≤ length text.now }
+    requires fresh { schedule.old.pairs ≡ [] }
+    requires short { length text.now ≤ 1048577 }
+    ensures { IfOk result (IsJudgement file.now text.now schedule.new.pairs) }
+{
+    let program = checked.program();
+    if !thin(program) {
         let reject = Reject {
             rule: Rule::Stage,
             span: program.span,
@@ -112,7 +139,7 @@ fn judge_program(
         let line = reject_line(alloc, file, text, reject)?;
         return Ok(Reply::said(alloc, Status::Rejected, line));
     }
-    run(alloc, file, text, program, schedule)
+    run(alloc, file, text, checked, schedule)
 }
 
 /// Runs a program, and tells how it ended.
@@ -120,16 +147,16 @@ fn run(
     alloc: Global,
     file: &str,
     text: &[u8],
-    program: Program,
+    checked: Checked,
     schedule: &mut Schedule,
 ) -> Result<Reply, AllocError>
-    requires thin { IsTrue (is_thin program) }
-    requires few { length (body_of program) ≤ 1048577 }
+    requires thin { IsTrue (is_thin checked) }
+    requires few { length (body_of checked) ≤ 1048577 }
     requires short { length text.now ≤ 1048577 }
     requires fresh { schedule.old.pairs ≡ [] }
-    ensures { IfOk result (Reports file.now text.now program schedule.new.pairs) }
+    ensures { IfOk result (Reports file.now text.now checked schedule.new.pairs) }
 {
-    let (plain, steps) = drive(alloc, program, schedule)?;
+    let (plain, steps) = drive(alloc, checked, schedule)?;
     report(alloc, file, text, plain, steps)
 }
 

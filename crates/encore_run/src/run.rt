@@ -5,8 +5,8 @@ ghost use Rattle.enc_model.specs.Exec.{exec, steps_of};
 ghost use Rattle.enc_model.specs.Phase.{least_ready};
 ghost use Rattle.encore_run.specs.Due.{StopsAt, has_steps};
 
-use enc_ast::Program;
 use enc_model::{Pair, Plain, Schedule, StepFail};
+use enc_rules::Checked;
 use std::alloc::{AllocError, Global};
 
 /// A run stops once it has made so many steps.
@@ -16,16 +16,16 @@ const MAX_STEPS: u64 = 10_000_000;
 /// steps it has made, and leaves them in the schedule.
 pub fn drive(
     alloc: Global,
-    program: Program,
+    checked: Checked,
     schedule: &mut Schedule,
 ) -> Result<(Plain, u64), AllocError>
-    requires thin { IsTrue (is_thin program) }
+    requires thin { IsTrue (is_thin checked) }
     requires fresh { schedule.old.pairs ≡ [] }
-    ensures program { IfOk result (λ run. run.0.program ≡ program) }
-    ensures stops { IfOk result (λ run. StopsAt program schedule.new.pairs run.0.config) }
+    ensures program { IfOk result (λ run. run.0.program ≡ checked) }
+    ensures stops { IfOk result (λ run. StopsAt checked schedule.new.pairs run.0.config) }
     ensures steps { IfOk result (λ run. run.1 ≡ steps_of schedule.new.pairs) }
 {
-    let mut plain = Plain::of(alloc, program)?;
+    let mut plain = Plain::of(alloc, checked)?;
     for turns in 0..MAX_STEPS {
         if !turn(&mut plain, schedule)? {
             return Ok((plain, turns));

@@ -2,9 +2,10 @@
 
 use crate::outside::program;
 use enc_ast::{Program, Span};
+use enc_check::check;
 use enc_model::{
     Cell, Phase, Plain, StepFail, Stepped, TrapKind, Value, never_blocked, never_stuck, stops_soon,
-    thin,
+    thin, thin_accepted,
 };
 use enc_parse::parse;
 use std::alloc::Global;

@@ -8,4 +8,4 @@ pub returns-clause-stops : goal.returns-clause-stops
 returns-clause-stops c =
     let run = c.loop-turns in
     let full : steps_of run.schedule.pairs ≡ budget = omega arith in
-    full_stops c.args.program run.plain.program run.schedule.pairs run.plain.config run.invariant.program run.invariant.exec run.invariant.some full
+    full_stops c.args.checked run.plain.program run.schedule.pairs run.plain.config run.invariant.program run.invariant.exec run.invariant.some full
