@@ -22,6 +22,7 @@ const TAIL: &str = "; } }";
 const NAMES: &str = "k b t u x m l r d xs fs rs f p w";
 
 /// A program that prints an expression, with its tables and variables. `m` is moved.
+#[derive(Drop)]
 struct Setting {
     program: Program,
     tables: Tables,

@@ -5,6 +5,7 @@ use enc_ast::Span;
 use std::alloc::{AllocError, Global};
 
 /// A text without its marks, and where the marked part stands.
+#[derive(Drop)]
 pub struct Marked {
     pub text: String,
     pub span: Span,
