@@ -15,6 +15,8 @@ mod grammar;
 mod machine;
 pub mod outside;
 #[cfg(test)]
+mod programs;
+#[cfg(test)]
 mod rows;
 #[cfg(test)]
 mod sinks;
