@@ -46,21 +46,18 @@ no_failure text program rule span runs (inr (inl ill)) = not_ill text program ru
 no_failure text program rule span runs (inr (inr stage)) =
     built (is_thin program) runs.thin (ap is_thin (one_spelled text program stage.program runs.spells stage.spells) ∙ stage.unbuilt)
 
-abbrev reject_of : Rule → Span → Reject
-reject_of r s = record { rule = r; span = s }
-
 -- one place of one rule is told in one line
-line_of_reject : (file text : List ℕ) (rule other : Rule) (span place : Span) → reject_of rule span ≡ reject_of other place → reject_line file text rule span ≡ reject_line file text other place
-line_of_reject file text rule other span place e = ap (λ (r : Reject). reject_line file text r.rule r.span) e
+line_of_reject : (file text : List ℕ) (f g : Reject) → f ≡ g → reject_line file text f.rule f.span ≡ reject_line file text g.rule g.span
+line_of_reject file text f g e = ap (λ (r : Reject). reject_line file text r.rule r.span) e
 
 -- all first failures of a text are told in one line
 pub one_failure : (file text : List ℕ) (rule other : Rule) (span place : Span) → FirstFailure text rule span → FirstFailure text other place → reject_line file text rule span ≡ reject_line file text other place
-one_failure file text rule other span place (inl f) (inl g) = line_of_reject file text rule other span place ((one_answer text).one_failure (record { rule = rule; span = span }) (record { rule = other; span = place }) f g)
+one_failure file text rule other span place (inl f) (inl g) = line_of_reject file text (record { rule = rule; span = span }) (record { rule = other; span = place }) ((one_answer text).one_failure _ _ f g)
 one_failure file text rule other span place (inl f) (inr (inl i)) = absurd (not_refused text i.program rule span i.spells f)
 one_failure file text rule other span place (inl f) (inr (inr u)) = absurd (not_refused text u.program rule span u.spells f)
 one_failure file text rule other span place (inr (inl i)) (inl g) = absurd (not_refused text i.program other place i.spells g)
 one_failure file text rule other span place (inr (inl i)) (inr (inl j)) =
-    line_of_reject file text rule other span place
+    line_of_reject file text (record { rule = rule; span = span }) (record { rule = other; span = place })
     (unique (program_premises j.program) _ _ (subst (λ (p : Program). IsFirstFailure p (record { rule = rule; span = span })) (one_spelled text i.program j.program i.spells j.spells) i.first) j.first)
 one_failure file text rule other span place (inr (inl i)) (inr (inr u)) = absurd (not_ill text u.program rule span u.spells u.typed i)
 one_failure file text rule other span place (inr (inr u)) (inl g) = absurd (not_refused text u.program other place u.spells g)
