@@ -152,6 +152,7 @@ E-TYPE not «k»
 E-TYPE -«b»
 E-TYPE [1, «b», z]
 E-TYPE [«l», z]
+E-TYPE [«null[A]», z]
 E-TYPE [r, «k»]
 E-TYPE len(«k»)
 E-TYPE at(«k», z)

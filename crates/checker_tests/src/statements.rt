@@ -207,6 +207,7 @@ S-ATOMIC let d = new D; let p = lift 1; atomic d { «let k = extract p;» }
 S-ATOMIC let d = new D; atomic d { while true { «this.other();» } }
 S-ATOMIC let d = new D; atomic d { «let u = this.other();» }
 S-ATOMIC let d = new D; atomic d { «atomic d { }» }
+S-LET let d = new D; let f = d ! ask(); atomic d { «let f = get f;» }
 S-ATOMIC «atomic 1 { }»
 E-VAR atomic 1 { print «z»; }";
 
@@ -264,6 +265,7 @@ E-MOVED let d = new D; let c = new C; if true { d ! put(c); } else { } «c».up(
 E-MOVED let d = new D; let c = new C; if true { } else { d ! put(c); } «c».up();
 E-MOVED let d = new D; let c = new C; if true { d ! put(c); } print isnull(«c»);
 E-MOVED let c = new C; c.give(«c»);
+E-MOVED let x = new C; x ! put(«x»);
 E-MOVED let c = new C; let x = c; let y = «c»;
 E-COPY let c = new C; let x = («c»);
 E-COPY let c = new C; let p = lift «c»;
@@ -273,6 +275,7 @@ E-VAR print «k»; let k = 1;";
 
 const GOOD_FLOW: &str = "if true { } else { } while false { }
 let d = new D; while true { let c = new C; d ! put(c); }
+let x = new C; x = null[A]; x.up();
 let d = new D; let c = new C; if true { d ! put(c); c = null[A]; } else { c.up(); } c.up();
 let d = new D; let c = new C; if true { d ! put(c); } else { } c = null[A]; c.up();";
 
@@ -297,6 +300,8 @@ E-COPY linear trait A { def m(): unit { let x = «this»; } }
 E-COPY linear trait A { def m(): A { return «this»; } }
 E-MOVED linear trait A { def m(x: A): unit { this.m(«this»); } }
 S-READONLY read trait W { n: int; def m(): unit { «this.n = 1;» } }
+S-READONLY read trait W { n: int; def m(k: int): unit { if true { «this.n = k;» } } }
+E-VAR fun g(k: int): int { return k; print «z»; }
 S-STORE read trait W { n: int; def m(): unit { «this.n = true;» } }";
 
 const GOOD_BODIES: &str = "fun g(k: int): int { if k < 1 { return 1; } else { return k; } }
