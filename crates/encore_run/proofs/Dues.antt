@@ -1,6 +1,7 @@
 -- What is due after a run that stopped.
-use Rattle.std.proofs.Common.{◌≡◌, ◌∙◌, ℕ, Bool, true, false, List, [], Option, Some, None, cond, refl, ap, sym, subst, arith}
-use Rattle.std.specs.Prelude.{IsSome, nat_le}
+use Rattle.std.proofs.Common.{◌≡◌, ◌∙◌, ◌≤◌, ◌+◌, ℕ, Bool, true, false, List, [], Option, Some, None, cond, refl, ap, sym, subst, arith}
+use Rattle.std.specs.Prelude.{IsSome, nat_le, is_some}
+use Rattle.std.specs.List.{list_any}
 use Rattle.std.proofs.lemmas.Bool.{false≢true}
 use Rattle.enc_ast.specs.declared.Program.{Program}
 use Rattle.enc_model.specs.declared.Config.{Config}
@@ -8,7 +9,7 @@ use Rattle.enc_model.specs.declared.Pair.{Pair}
 use Rattle.enc_model.specs.declared.Phase.{Phase}
 use Rattle.enc_model.specs.declared.Phase.TheVariants as phases
 use Rattle.enc_model.specs.Exec.{exec, steps_of}
-use Rattle.enc_model.specs.Phase.{phase_of}
+use Rattle.enc_model.specs.Phase.{phase_by, phase_of, least_ready, has_trapped, waits}
 use Rattle.encore_run.specs.declared.status.Status.{Status}
 use Rattle.encore_run.specs.declared.status.Status.TheVariants.{Budget}
 use Rattle.encore_run.specs.declared.words.Command.{Command}
@@ -40,6 +41,26 @@ full_stops program machine pairs config same reached some full = record {
   stops = subst (λ steps. IsSome (stop_status steps (phase_of program config))) (sym full) (stops_full (phase_of program config));
   steps = omega arith;
 }
+
+idle_stop : (steps : ℕ) (ready : Option ℕ) (trapped waiting : Bool) → ready ≡ None → IsSome (stop_status steps (phase_by (is_some ready) trapped waiting))
+idle_stop steps (Some a) trapped waiting e = absurd (cc e)
+idle_stop steps None true waiting e = refl
+idle_stop steps None false true e = refl
+idle_stop steps None false false e = refl
+
+-- a run may stop where no actor is ready
+pub idle_stops : (program machine : Program) (pairs : List Pair) (config : Config) → machine ≡ program → exec machine pairs ≡ Some config → has_steps pairs ≡ true → least_ready machine config ≡ None → steps_of pairs ≤ budget → StopsAt program pairs config
+idle_stops program machine pairs config same reached some idle few = record {
+  exec = subst (λ (p : Program). exec p pairs ≡ Some config) same reached;
+  some = some;
+  stops = idle_stop (steps_of pairs) (least_ready program config) (list_any has_trapped config.actors) (list_any waits config.actors) (subst (λ (p : Program). least_ready p config ≡ None) same idle);
+  steps = few;
+}
+
+-- no step was made
+pub no_step : (went : Bool) (after before : ℕ) → went ≡ false → after ≡ before + cond went 1 0 → after ≡ before
+no_step true after before e h = absurd (cc e)
+no_step false after before e h = omega (arith, h)
 
 due_is : (command : Command) (text : List ℕ) (program : Program) (pairs : List Pair) (config : Config) → exec program pairs ≡ Some config → due command text program pairs ≡ run_due (source_of command) text program (steps_of pairs) (Some config)
 due_is (Run file) text program pairs config e = ap (run_due file text program (steps_of pairs)) e
