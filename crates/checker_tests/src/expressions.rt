@@ -7,7 +7,7 @@ use enc_flow::Env;
 use enc_modes::Ty;
 use enc_names::{Tables, tables};
 use enc_parse::parse;
-use std::alloc::Global;
+use std::alloc::{AllocError, Global};
 use std::process::Abort;
 use std::test::Fail;
 
@@ -37,7 +37,7 @@ impl Setting {
         let mut env = Env::new(alloc);
         for name in NAMES.split(' ') {
             if let Some(ty) = field_type(&tables, name) {
-                env.declare(Word::copy_of(alloc, name)?, ty.copy(alloc)?)?;
+                declare(&mut env, Word::copy_of(alloc, name)?, ty.copy(alloc)?)?;
             }
         }
         if let Some(moved) = env.find("m") {
@@ -57,6 +57,14 @@ impl Setting {
         };
         expr_type(alloc, self.tables.names(), &self.env, expr, Use::Copies)
     }
+}
+
+/// Declares a variable where there is room for one more.
+fn declare(env: &mut Env, word: Word, ty: Ty) -> Result<(), AllocError> {
+    if env.len() < 1024 {
+        env.declare(word, ty)?;
+    }
+    Ok(())
 }
 
 fn field_type<'a>(tables: &'a Tables, name: &str) -> Option<&'a Ty> {

@@ -6,6 +6,7 @@ use enc_modes::{
     mode_of, pack_of, split_of,
 };
 use std::alloc::{AllocError, Global};
+use std::process::Abort;
 use std::test::Fail;
 
 fn linear(number: u32) -> Alt {
@@ -26,32 +27,39 @@ fn cap(alloc: Global, text: &str) -> Result<Cap, AllocError> {
     Ok(groups)
 }
 
-/// A type of one trait.
-fn one(alloc: Global, mode: Mode) -> Result<Ty, AllocError> {
+/// The only group of a type of one trait.
+fn one(alloc: Global, mode: Mode) -> Result<Cap, AllocError> {
     let mut group = Row::new(alloc);
     group.push(Alt { number: 3, mode })?;
     let mut groups = Row::new(alloc);
     groups.push(group)?;
-    Ok(Ty::Cap(groups))
+    Ok(groups)
+}
+
+/// Asserts what the references of a type of one trait may do.
+fn check_one(
+    rt: &impl Abort,
+    alloc: Global,
+    mode: Mode,
+    linear: bool,
+    shareable: bool,
+) -> Result<(), AllocError> {
+    let groups = one(alloc, mode)?;
+    assert_eq!(rt; mode_of(&groups), mode);
+    let ty = Ty::Cap(groups);
+    assert_eq!(rt; is_linear(&ty), linear);
+    assert_eq!(rt; is_shareable(&ty), shareable);
+    assert_eq!(rt; is_sendable(&ty), linear || shareable);
+    Ok(())
 }
 
 #[test]
 fn one_trait_has_its_mode(rt: HostRuntime) -> Result<(), Fail> {
-    for (mode, linear, shareable) in [
-        (Mode::Linear, true, false),
-        (Mode::Local, false, false),
-        (Mode::Read, false, true),
-        (Mode::Subordinate, false, false),
-    ] {
-        let ty = one(rt.alloc(), mode)?;
-        assert_eq!(rt; is_linear(&ty), linear);
-        assert_eq!(rt; is_shareable(&ty), shareable);
-        assert_eq!(rt; is_sendable(&ty), linear || shareable);
-        let Ty::Cap(groups) = ty else {
-            panic!(rt; "a capability type")
-        };
-        assert_eq!(rt; mode_of(&groups), mode);
-    }
+    let alloc = rt.alloc();
+    check_one(&rt, alloc, Mode::Linear, true, false)?;
+    check_one(&rt, alloc, Mode::Local, false, false)?;
+    check_one(&rt, alloc, Mode::Read, false, true)?;
+    check_one(&rt, alloc, Mode::Subordinate, false, false)?;
     Ok(())
 }
 

@@ -4,6 +4,7 @@ use enc_ast::{Row, Word};
 use enc_flow::Env;
 use enc_modes::{Alt, Mode, Ty};
 use std::alloc::{AllocError, Global};
+use std::process::Abort;
 use std::test::Fail;
 
 /// A type of one linear trait.
@@ -27,6 +28,22 @@ fn three(alloc: Global) -> Result<Env, AllocError> {
     Ok(env)
 }
 
+/// Takes the variable of a name, and tells whether it hadn't been moved.
+fn take(rt: &impl Abort, env: &mut Env, name: &str) -> bool {
+    let Some(variable) = env.find(name) else {
+        panic!(rt; "a variable {name}")
+    };
+    env.take(variable)
+}
+
+/// Whether the variable of a name is moved.
+fn is_moved(rt: &impl Abort, env: &Env, name: &str) -> bool {
+    let Some(variable) = env.find(name) else {
+        panic!(rt; "a variable {name}")
+    };
+    env.is_moved(variable)
+}
+
 #[test]
 fn variables_are_found_by_name(rt: HostRuntime) -> Result<(), Fail> {
     let env = three(rt.alloc())?;
@@ -34,18 +51,27 @@ fn variables_are_found_by_name(rt: HostRuntime) -> Result<(), Fail> {
     assert_eq!(rt; env.find("x"), Some(0));
     assert_eq!(rt; env.find("k"), Some(2));
     assert_eq!(rt; env.find("z"), None);
-    assert!(rt; matches!(env.known(2), Some(Ty::Int)));
+    Ok(())
+}
+
+#[test]
+fn variables_have_types(rt: HostRuntime) -> Result<(), Fail> {
+    let env = three(rt.alloc())?;
+    let Some(variable) = env.find("k") else {
+        panic!(rt; "a variable")
+    };
+    assert!(rt; matches!(env.known(variable), Some(Ty::Int)));
     Ok(())
 }
 
 #[test]
 fn the_newest_of_a_name_is_found(rt: HostRuntime) -> Result<(), Fail> {
     let alloc = rt.alloc();
-    let mut env = three(alloc)?;
-    assert_eq!(rt; env.declare_unknown(Word::copy_of(alloc, "x")?)?, 3);
-    assert_eq!(rt; env.find("x"), Some(3));
-    assert!(rt; env.known(3).is_none());
-    env.cut(3);
+    let mut env = Env::new(alloc);
+    env.declare(Word::copy_of(alloc, "x")?, Ty::Int)?;
+    env.declare_unknown(Word::copy_of(alloc, "x")?)?;
+    assert_eq!(rt; env.find("x"), Some(1));
+    env.cut(1);
     assert_eq!(rt; env.find("x"), Some(0));
     Ok(())
 }
@@ -53,12 +79,17 @@ fn the_newest_of_a_name_is_found(rt: HostRuntime) -> Result<(), Fail> {
 #[test]
 fn linear_variables_are_moved(rt: HostRuntime) -> Result<(), Fail> {
     let mut env = three(rt.alloc())?;
-    assert!(rt; env.take(0));
-    assert!(rt; !env.take(0));
-    assert!(rt; env.take(2) && env.take(2));
-    assert!(rt; env.is_moved(0) && !env.is_moved(1) && !env.is_moved(2));
-    env.give(0);
-    assert!(rt; !env.is_moved(0));
+    assert!(rt; take(&rt, &mut env, "x"));
+    assert!(rt; !take(&rt, &mut env, "x"));
+    assert!(rt; take(&rt, &mut env, "k"));
+    assert!(rt; take(&rt, &mut env, "k"));
+    assert!(rt; is_moved(&rt, &env, "x"));
+    assert!(rt; !is_moved(&rt, &env, "y"));
+    assert!(rt; !is_moved(&rt, &env, "k"));
+    if let Some(variable) = env.find("x") {
+        env.give(variable);
+    }
+    assert!(rt; !is_moved(&rt, &env, "x"));
     Ok(())
 }
 
@@ -67,10 +98,12 @@ fn branches_are_united(rt: HostRuntime) -> Result<(), Fail> {
     let mut left = three(rt.alloc())?;
     let mut right = left.copy()?;
     assert!(rt; left.same_moves(&right));
-    left.take(0);
-    right.take(1);
+    take(&rt, &mut left, "x");
+    take(&rt, &mut right, "y");
     assert!(rt; !left.same_moves(&right));
     left.merge(&right);
-    assert!(rt; left.is_moved(0) && left.is_moved(1) && !left.is_moved(2));
+    assert!(rt; is_moved(&rt, &left, "x"));
+    assert!(rt; is_moved(&rt, &left, "y"));
+    assert!(rt; !is_moved(&rt, &left, "k"));
     Ok(())
 }
