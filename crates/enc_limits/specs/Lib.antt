@@ -1,0 +1,6 @@
+pub mod Numbers
+pub mod Types
+pub mod Exprs
+pub mod Sources
+pub mod Stmts
+pub mod Programs
