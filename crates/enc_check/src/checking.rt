@@ -2,6 +2,7 @@
 ghost use Rattle.std.specs.Prelude.{◌≡◌, IfOk};
 ghost use Rattle.enc_premises.specs.Passing.{Passes, Tells, Accepts};
 ghost use Rattle.enc_decls.specs.Rules.{table_premises};
+ghost use Rattle.enc_limits.specs.Programs.{IsWithinLimits};
 ghost use Rattle.enc_names.specs.Members.{tables_of};
 ghost use Rattle.enc_rules.specs.Programs as spec;
 ghost use Rattle.enc_rules.specs.WellTyped.{WellTyped};
@@ -17,6 +18,7 @@ use std::alloc::Global;
 /// is which rule fails first and at which node, or that memory ran out.
 #[tactic(auto, using(crate::proofs::Whole::checked))]
 pub fn check(alloc: Global, program: Program) -> Result<Checked, Fail>
+    requires within { IsWithinLimits program }
     ensures kept { IfOk result (λ checked. checked ≡ program) }
 
     // Ok: it is well typed. Reject: this is its first failure.

@@ -1,5 +1,6 @@
 // Programs that keep all rules.
 ghost use Rattle.std.specs.Prelude.{◌≡◌};
+ghost use Rattle.enc_limits.specs.Programs.{IsWithinLimits};
 ghost use Rattle.enc_names.specs.Members.{tables_of};
 ghost use Rattle.enc_rules.specs.WellTyped.{WellTyped};
 
@@ -7,7 +8,7 @@ use enc_ast::Program;
 use enc_names::Tables;
 use std::marker::Model;
 
-/// A program that keeps all rules, with its tables. Contracts see the program.
+/// A program within the limits that keeps all rules, with its tables. Contracts see the program.
 #[derive(Drop)]
 pub struct Checked {
     program: Program,
@@ -17,6 +18,7 @@ pub struct Checked {
 impl Model for Checked {
     ghost use Rattle.std.specs.Prelude.{◌≡◌};
     ghost use Rattle.std.specs.Coded.{codes};
+    ghost use Rattle.enc_limits.specs.Programs.{IsWithinLimits};
     ghost use Rattle.enc_names.specs.Members.{tables_of};
     ghost use Rattle.enc_rules.specs.WellTyped.{WellTyped};
     ghost use Rattle.enc_ast.specs.declared.decls.Program as value;
@@ -30,13 +32,14 @@ impl Model for Checked {
 
     ghost view = { λ checked. checked.program };
 
-    ghost invariant = { λ checked. WellTyped checked.program × (checked.tables ≡ tables_of checked.program.decls) };
+    ghost invariant = { λ checked. WellTyped checked.program × (IsWithinLimits checked.program × (checked.tables ≡ tables_of checked.program.decls)) };
 }
 
 impl Checked {
-    /// A program that is known to keep all rules, with its tables.
+    /// A program that is known to be within the limits and to keep all rules, with its tables.
     pub fn new(program: Program, tables: Tables) -> Checked
         requires well_typed { WellTyped program }
+        requires within { IsWithinLimits program }
         requires tables { tables ≡ tables_of program.decls }
         ensures { result ≡ program }
     {
@@ -47,6 +50,7 @@ impl Checked {
     pub fn program(&self) -> &Program
         ensures program { result.now ≡ self.now }
         ensures well_typed { WellTyped self.now }
+        ensures within { IsWithinLimits self.now }
     {
         &self.program
     }
@@ -62,6 +66,7 @@ impl Checked {
     pub fn into_program(self) -> Program
         ensures program { result ≡ self }
         ensures well_typed { WellTyped self }
+        ensures within { IsWithinLimits self }
     {
         let Checked { program, tables: _ } = self;
         program

@@ -3,6 +3,8 @@
 
 mod checked;
 mod laws;
+mod typing;
 
 pub use checked::Checked;
 pub use laws::{one_answer, rules_agree};
+pub use typing::type_of;

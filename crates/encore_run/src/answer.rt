@@ -19,6 +19,7 @@ use enc_io::{Files, ReadFail, read_all};
 use enc_model::{Config, Phase, Plain, Schedule, thin};
 use enc_parse::parse;
 use enc_rules::Checked;
+use enc_within::spelled_is_within;
 use std::alloc::{AllocError, Global};
 
 /// How many bytes a source may have. One more is read, which tells that there are more.
@@ -106,6 +107,7 @@ fn judge_program(
     requires short { length text.now ≤ 1048577 }
     ensures { IfOk result (IsJudgement file.now text.now schedule.new.pairs) }
 {
+    spelled_is_within();
     match check(alloc, program) {
         Err(Fail::Memory) => Err(AllocError),
         Err(Fail::Reject(broken)) => {

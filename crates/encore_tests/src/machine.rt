@@ -8,6 +8,7 @@ use enc_model::{
     thin, thin_accepted,
 };
 use enc_parse::parse;
+use enc_within::spelled_is_within;
 use std::alloc::Global;
 use std::process::Abort;
 use std::test::Fail;
@@ -22,6 +23,7 @@ fn machine(rt: &impl Abort, alloc: Global, lines: &str) -> Result<Plain, Fail> {
     never_blocked(&tree);
     stops_soon(&tree);
     thin_accepted(&tree);
+    spelled_is_within();
     Ok(Plain::of(alloc, check(alloc, tree)?)?)
 }
 
