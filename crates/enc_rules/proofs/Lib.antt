@@ -10,3 +10,4 @@ pub mod StmtsSound
 pub mod TypesKnown
 pub mod Classes
 pub mod ProgramsSound
+pub mod Growth

@@ -3,6 +3,7 @@ pub mod Parts
 pub mod Calls
 pub mod Sources
 pub mod Stmts
+pub mod Branches
 pub mod Programs
 pub mod Typing
 pub mod WellTyped
