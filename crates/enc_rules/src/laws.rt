@@ -1,12 +1,16 @@
-// What is said of each program, and of what its statements leave.
-ghost use Rattle.std.specs.Prelude.{◌≡◌, ◌⊎◌, ℕ, List, Some, true, false, is_some};
+// What is said of each program, of what its types stand for, and of what its statements leave.
+ghost use Rattle.std.specs.Prelude.{◌≡◌, ◌⊎◌, ◌↔◌, ℕ, List, Some, true, false, is_some};
 ghost use Rattle.enc_ast.specs.declared.decls.Program.{Program};
 ghost use Rattle.enc_ast.specs.declared.rules.Reject.{Reject};
+ghost use Rattle.enc_ast.specs.declared.TypeText.{TypeText};
 ghost use Rattle.enc_ast.specs.declared.Stmt.{Stmt};
 ghost use Rattle.enc_modes.specs.declared.ty.Ty.{Ty};
 ghost use Rattle.enc_premises.specs.First.{AllHold};
 ghost use Rattle.enc_flow.specs.Env.{Env, find, declares, cut, same_moves};
 ghost use Rattle.enc_flow.specs.Under.{Under, GrownByNew};
+ghost use Rattle.enc_types.specs.Written.{type_of, type_premises};
+ghost use Rattle.enc_decls.specs.Rules.{HasTables};
+ghost use Rattle.enc_names.specs.Members.{tables_of};
 ghost use Rattle.enc_exprs.specs.Uses.{lends};
 ghost use Rattle.enc_rules.specs.Context.{Context};
 ghost use Rattle.enc_rules.specs.Branches.{UnderBoth};
@@ -44,4 +48,11 @@ pub fn usable_after()
     ensures pack_statements { (ctx : Context) (env last : Env) (x y z : List ℕ) (v : Ty) (a : List Stmt) → is_some (find env z) ≡ false → TypesAll ctx (declares (lends (lends env x) y) z (Some v)) a last → GrownByNew env last }
     ensures pack_block { (ctx : Context) (env last : Env) (x y z : List ℕ) (v : Ty) (a : List Stmt) → is_some (find env z) ≡ false → TypesAll ctx (declares (lends (lends env x) y) z (Some v)) a last → Under (cut env last) last }
     ensures pack_branches { (ctx : Context) (env left right : Env) (x y z : List ℕ) (v : Ty) (a b : List Stmt) → is_some (find env z) ≡ false → TypesAll ctx (declares (lends (lends env x) y) z (Some v)) a left → TypesAll ctx env b right → UnderBoth (cut env left) (cut env right) }
+{}
+
+/// In the tables of a program whose declarations keep all rules, a written type stands for a type exactly
+/// where no rule fails at it or at a part of it. This is a law over the definitions: the call answers nothing,
+/// changes nothing and takes no memory.
+pub fn types_are_told()
+    ensures { (p : Program) (text : TypeText) → HasTables p → (is_some (type_of (tables_of p.decls).names text) ≡ true) ↔ AllHold (type_premises (tables_of p.decls).names text) }
 {}

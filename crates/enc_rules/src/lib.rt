@@ -6,5 +6,5 @@ mod laws;
 mod typing;
 
 pub use checked::Checked;
-pub use laws::{one_answer, rules_agree, usable_after};
+pub use laws::{one_answer, rules_agree, types_are_told, usable_after};
 pub use typing::type_of;
