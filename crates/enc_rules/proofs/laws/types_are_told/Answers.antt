@@ -20,6 +20,7 @@ there_holds names text h = go (type_of names text) refl h
     go (Some t) e h = known_holds names text t e
 
 told : (p : Program) (text : TypeText) → HasTables p → (is_some (type_of (tables_of p.decls).names text) ≡ true) ↔ AllHold (type_premises (tables_of p.decls).names text)
+unfolding tables_of
 told p text h = (there_holds (tables_of p.decls).names text, written_known p h text)
 
 pub returns : goal.returns
