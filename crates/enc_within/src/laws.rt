@@ -1,5 +1,5 @@
 // What is said of each program that a text spells.
-ghost use Rattle.std.specs.Prelude.{List};
+ghost use Rattle.std.specs.Prelude.{ℕ, List};
 ghost use Rattle.enc_ast.specs.declared.decls.Program.{Program};
 ghost use Rattle.enc_limits.specs.Programs.{IsWithinLimits};
 ghost use Rattle.enc_parse.specs.Spells.{Spells};

@@ -1,0 +1,9 @@
+pub mod Leads
+pub mod Tokens
+pub mod Names
+pub mod Types
+pub mod Exprs
+pub mod Sources
+pub mod Stmts
+pub mod Decls
+pub mod Programs
