@@ -107,7 +107,7 @@ fn judge_program(
     requires short { length text.now ≤ 1048577 }
     ensures { IfOk result (IsJudgement file.now text.now schedule.new.pairs) }
 {
-    spelled_is_within();
+    spelled_is_within(text, &program);
     match check(alloc, program) {
         Err(Fail::Memory) => Err(AllocError),
         Err(Fail::Reject(broken)) => {

@@ -23,7 +23,7 @@ fn machine(rt: &impl Abort, alloc: Global, lines: &str) -> Result<Plain, Fail> {
     never_blocked(&tree);
     stops_soon(&tree);
     thin_accepted(&tree);
-    spelled_is_within();
+    spelled_is_within(text.as_bytes(), &tree);
     Ok(Plain::of(alloc, check(alloc, tree)?)?)
 }
 
