@@ -1,12 +1,16 @@
 // The rules of expressions: what is refused, by which rule and where, and what has which type.
+ghost use Rattle.std.specs.Prelude.{◌≡◌, true, IfOk};
+ghost use Rattle.enc_types.specs.Names.{Names as Table};
+ghost use Rattle.enc_exprs.specs.Known.{Knows, knows_types};
 
 use crate::marked::{count, joined, unmarked};
-use enc_ast::{Decl, Expr, Fail as Refusal, Program, Reject, Span, StmtForm, Word};
-use enc_exprs::{Use, expr_type};
+use enc_ast::{Decl, Expr, ExprForm, Fail as Refusal, Program, Reject, Span, StmtForm, Word};
+use enc_exprs::{Use, expr_type, typed, types_stay_known};
 use enc_flow::Env;
 use enc_modes::Ty;
 use enc_names::{Tables, tables};
 use enc_parse::parse;
+use enc_rules::type_of;
 use std::alloc::{AllocError, Global};
 use std::process::Abort;
 use std::test::Fail;
@@ -231,5 +235,51 @@ fn expressions_have_types(rt: HostRuntime) -> Result<(), Fail> {
         let due = field_type(&setting.tables, like);
         assert!(rt; due.is_some_and(|due| found.is(due)), "{expr}");
     }
+    Ok(())
+}
+
+/// One variable, the integer `k`.
+fn only_k(alloc: Global) -> Result<Env, AllocError>
+    ensures { IfOk result (λ env. Knows env) }
+{
+    types_stay_known();
+    let mut env = Env::new(alloc);
+    let word = Word::copy_of(alloc, "k")?;
+    env.declare(word, Ty::Int)?;
+    Ok(env)
+}
+
+/// The variable of a name, at these bytes of a text.
+#[tactic(auto, unfolding(enc_exprs::specs::Known::knows_types))]
+fn variable_at(alloc: Global, name: &str, start: u32, end: u32) -> Result<Expr, AllocError>
+    ensures { IfOk result (λ x. (names : Table) → knows_types names x ≡ true) }
+{
+    Ok(Expr {
+        form: ExprForm::Name(Word::copy_of(alloc, name)?),
+        span: Span { start, end },
+    })
+}
+
+/// The rule and the place of a refusal.
+fn pair_of(answer: Result<Ty, Refusal>) -> Option<(&'static str, u32, u32)> {
+    match answer {
+        Err(Refusal::Reject(Reject { rule, span })) => Some((rule.name(), span.start, span.end)),
+        _ => None,
+    }
+}
+
+#[test]
+fn variables_are_typed_by_tables(rt: HostRuntime) -> Result<(), Fail> {
+    let alloc = rt.alloc();
+    let tables = Setting::of(alloc, "1")?.tables;
+    let env = only_k(alloc)?;
+    let seen = variable_at(alloc, "k", 0, 1)?;
+    assert!(rt; matches!(type_of(alloc, &tables, &env, &seen), Ok(Ty::Int)));
+    assert!(rt; matches!(typed(alloc, tables.names(), &env, &seen), Ok(Ty::Int)));
+    let unseen = variable_at(alloc, "z", 4, 5)?;
+    let found = pair_of(type_of(alloc, &tables, &env, &unseen));
+    assert_eq!(rt; found, Some(("E-VAR", 4, 5)));
+    let found = pair_of(typed(alloc, tables.names(), &env, &unseen));
+    assert_eq!(rt; found, Some(("E-VAR", 4, 5)));
     Ok(())
 }

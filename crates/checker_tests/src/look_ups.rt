@@ -1,5 +1,6 @@
 // Look-ups in the tables of a program.
 
+use enc_ast::{Decl, Program, TypeText};
 use enc_modes::{Alt, Mode, Ty};
 use enc_names::{MethodId, Tables, tables};
 use enc_parse::parse;
@@ -17,6 +18,10 @@ class P = (B or R) and A;
 active class D { kept: P; def put(p: P, k: int): unit { } }
 active class Main { def main(args: List[int]): unit { } }";
 
+fn alt(number: u32, mode: Mode) -> Alt {
+    Alt { number, mode }
+}
+
 fn found(alloc: Global) -> Result<Tables, Fail> {
     let program = parse(alloc, DECLARATIONS.as_bytes())?;
     Ok(tables(alloc, &program)?)
@@ -32,6 +37,58 @@ fn fields_have_places_and_types(rt: HostRuntime) -> Result<(), Fail> {
     assert!(rt; matches!(tables.field_ty(0, 0), Some(Ty::Int)));
     assert!(rt; matches!(tables.field_ty(0, 1), Some(Ty::Cap(_))));
     assert!(rt; tables.field_ty(0, 2).is_none());
+    Ok(())
+}
+
+/// The type of the first field of the first declaration.
+fn written_in(program: &Program) -> Option<&TypeText> {
+    match program.decls.get(0)? {
+        Decl::Trait(decl) => Some(&decl.fields.get(0)?.ty),
+        _ => None,
+    }
+}
+
+/// The type that a field's text stands for.
+fn written(alloc: Global, tables: &Tables, text: &str) -> Result<Option<Ty>, Fail> {
+    let text = format!(in alloc; "local trait T {{ x: {text}; }}")?;
+    let program = parse(alloc, text.as_bytes())?;
+    match written_in(&program) {
+        Some(ty) => Ok(tables.ty(ty)?),
+        None => Ok(None),
+    }
+}
+
+#[test]
+fn written_types_are_looked_up(rt: HostRuntime) -> Result<(), Fail> {
+    let alloc = rt.alloc();
+    let tables = found(alloc)?;
+    let Some(Ty::List(item)) = written(alloc, &tables, "List[int]")? else {
+        panic!(rt; "a list")
+    };
+    assert!(rt; matches!(item.get(), Ty::Int));
+    let Some(Ty::Cap(groups)) = written(alloc, &tables, "P")? else {
+        panic!(rt; "groups")
+    };
+    let [first, second] = groups.as_slice() else {
+        panic!(rt; "two groups")
+    };
+    assert_eq!(rt; first.as_slice(), [alt(0, Mode::Linear)].as_slice());
+    assert_eq!(rt;
+        second.as_slice(),
+        [alt(1, Mode::Linear), alt(3, Mode::Read)].as_slice()
+    );
+    for text in ["Nope", "twice", "Fut[A]", "Bestowed[A]", "A and A"] {
+        assert!(rt; written(alloc, &tables, text)?.is_none(), "{text}");
+    }
+    Ok(())
+}
+
+#[test]
+fn declarations_are_numbered(rt: HostRuntime) -> Result<(), Fail> {
+    let tables = found(rt.alloc())?;
+    assert_eq!(rt; tables.names().find("A"), Some(0));
+    assert_eq!(rt; tables.names().find("P"), Some(5));
+    assert_eq!(rt; tables.names().find("Nope"), None);
     Ok(())
 }
 

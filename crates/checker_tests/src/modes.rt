@@ -2,8 +2,8 @@
 
 use enc_ast::Row;
 use enc_modes::{
-    Alt, Cap, Mode, Ty, choose_of, composes, in_order, is_linear, is_sendable, is_shareable,
-    mode_of, pack_of, split_of,
+    Alt, Cap, Mode, Ty, choose_of, composes, copy_cap, in_order, is_linear, is_sendable,
+    is_shareable, mode_of, pack_of, split_of,
 };
 use std::alloc::{AllocError, Global};
 use std::process::Abort;
@@ -96,6 +96,15 @@ fn groups_are_put_in_order(rt: HostRuntime) -> Result<(), Fail> {
     assert!(rt; sorted.is(&Ty::Cap(cap(alloc, "24 3 5")?)));
     assert!(rt; !sorted.is(&Ty::Cap(cap(alloc, "42 3 5")?)));
     assert!(rt; sorted.copy(alloc)?.is(&sorted));
+    Ok(())
+}
+
+#[test]
+fn groups_are_copied(rt: HostRuntime) -> Result<(), Fail> {
+    let alloc = rt.alloc();
+    let copied = Ty::Cap(copy_cap(alloc, &cap(alloc, "24 3 5")?)?);
+    assert!(rt; copied.is(&Ty::Cap(cap(alloc, "24 3 5")?)));
+    assert!(rt; !copied.is(&Ty::Cap(cap(alloc, "24 3")?)));
     Ok(())
 }
 

@@ -65,6 +65,17 @@ fn variables_have_types(rt: HostRuntime) -> Result<(), Fail> {
 }
 
 #[test]
+fn types_are_known_of_declared_variables(rt: HostRuntime) -> Result<(), Fail> {
+    let alloc = rt.alloc();
+    let mut env = Env::new(alloc);
+    assert!(rt; env.is_empty());
+    let flag = env.declare(Word::copy_of(alloc, "b")?, Ty::Bool)?;
+    assert!(rt; !env.is_empty());
+    assert!(rt; matches!(env.ty(flag), Ty::Bool));
+    Ok(())
+}
+
+#[test]
 fn the_newest_of_a_name_is_found(rt: HostRuntime) -> Result<(), Fail> {
     let alloc = rt.alloc();
     let mut env = Env::new(alloc);
