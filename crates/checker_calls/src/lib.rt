@@ -10,8 +10,6 @@ mod checked;
 #[cfg(test)]
 mod fixture;
 #[cfg(test)]
-mod laws;
-#[cfg(test)]
 mod parts;
 #[cfg(test)]
 mod sources;
