@@ -1,20 +1,14 @@
-// A program of many declarations, with its tables and variables.
-ghost use Rattle.std.specs.Prelude.{◌≡◌, IfOk, length, ◌<◌};
+// A program of many declarations, and rows of statements for its `main`.
 
 use checker_tests::marked::{count, joined, unmarked};
-use enc_ast::{Decl, Fail as Refusal, Program, Reject, SourceForm, Span, Stmt, StmtForm, Word};
-use enc_flow::Env;
-use enc_modes::Ty;
-use enc_names::{Tables, tables};
+use enc_ast::{Decl, Fail as Refusal, Program, Reject, Span, Stmt};
 use enc_parse::parse;
-use enc_sources::Context;
-use std::alloc::{AllocError, Global};
+use std::alloc::Global;
 use std::process::Abort;
 use std::test::Fail;
 
-/// Declarations 0 to 12, of which the first is a trait whose fields are the variables of the tests.
-const HEAD: &str =
-    "local trait Variables { k: int; b: bool; t: text; u: unit; x: A; y: A; pair: P; e: E; l: L; r: R; s: S; o: Own; d: D; f: Fut[int]; fu: Fut[unit]; p: Par[int]; pp: Par[Par[int]]; xs: List[int]; w: Bestowed[L]; }
+/// Declarations 0 to 12, of which the last is the class of `main`.
+const HEAD: &str = "local trait Top { k: int; }
 linear trait A { n: int; a: A; def up(k: int): int { return k; } def give(x: A): unit { } }
 linear trait B { def up(k: int): int { return k; } def down(): unit { } }
 local trait L { m: int; def set(k: int): unit { this.m = k; } }
@@ -31,12 +25,6 @@ active class Main { def main(args: List[int]): unit { ";
 /// What stands behind the statements of `main`.
 const TAIL: &str = " } }";
 
-/// The names of the variables.
-const NAMES: &str = "k b t u x y pair e l r s o d f fu p pp xs w";
-
-/// The number of the trait whose `this` is visible.
-pub const OWNER: u32 = 1;
-
 /// The program whose `main` has these statements.
 pub fn program(alloc: Global, stmts: &str) -> Result<Program, Fail> {
     let text = joined(alloc, HEAD, stmts, TAIL)?;
@@ -51,93 +39,6 @@ pub fn stmts_of(program: &Program) -> &[Stmt] {
     match class.methods.get(0) {
         Some(method) => method.body.as_slice(),
         None => &[],
-    }
-}
-
-/// A program whose declarations keep all rules, with its tables.
-#[derive(Drop)]
-pub struct Setting {
-    pub program: Program,
-    pub tables: Tables,
-    unit: Ty,
-}
-
-impl Setting {
-    /// The program whose `main` has these statements.
-    pub fn of(alloc: Global, stmts: &str) -> Result<Setting, Fail> {
-        let program = program(alloc, stmts)?;
-        let tables = tables(alloc, &program)?;
-        Ok(Setting {
-            program,
-            tables,
-            unit: Ty::Unit,
-        })
-    }
-
-    /// The statements of `main`.
-    pub fn stmts(&self) -> &[Stmt] {
-        stmts_of(&self.program)
-    }
-
-    /// The source of the first statement, where that is a `let`.
-    pub fn source(&self) -> Option<&SourceForm> {
-        match self.stmts() {
-            [stmt, ..] => match &stmt.form {
-                StmtForm::Let(_, source) => Some(&source.form),
-                _ => None,
-            },
-            [] => None,
-        }
-    }
-
-    /// The type of the variable of a name.
-    pub fn ty(&self, name: &str) -> Option<&Ty> {
-        self.tables.field_ty(0, self.tables.field(0, name)?)
-    }
-
-    /// All variables, none of which is moved, and a `this` of the type of `x`.
-    pub fn env(&self, alloc: Global) -> Result<Env, AllocError> {
-        let mut env = Env::new(alloc);
-        if let Some(ty) = self.ty("x") {
-            declare(&mut env, Word::copy_of(alloc, "this")?, ty.copy(alloc)?)?;
-        }
-        for name in NAMES.split(' ') {
-            if let Some(ty) = self.ty(name) {
-                declare(&mut env, Word::copy_of(alloc, name)?, ty.copy(alloc)?)?;
-            }
-        }
-        Ok(env)
-    }
-
-    /// What statements are judged in that stand in a method of the trait of `this` with no result.
-    pub fn context(&self) -> Context<'_> {
-        self.context_of(Some(OWNER))
-    }
-
-    /// What statements are judged in that stand in a body of this owner with no result.
-    pub fn context_of(&self, owner: Option<u32>) -> Context<'_> {
-        Context {
-            tables: &self.tables,
-            owner,
-            result: &self.unit,
-            inside: false,
-        }
-    }
-}
-
-/// Declares a variable where there is room for one more.
-fn declare(env: &mut Env, word: Word, ty: Ty) -> Result<(), AllocError> {
-    if env.len() < 1024 {
-        env.declare(word, ty)?;
-    }
-    Ok(())
-}
-
-/// Whether the variable of a name is there, and moved.
-pub fn is_moved(env: &Env, name: &str) -> bool {
-    match env.find(name) {
-        Some(variable) => env.is_moved(variable),
-        None => false,
     }
 }
 

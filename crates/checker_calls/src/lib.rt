@@ -1,19 +1,9 @@
-//! Tests of each call that the checker's crates offer, and of whole programs that are kept.
+//! Tests of the calls by which names, written types, declarations and whole programs are judged.
 #![tactic(auto)]
 
-#[cfg(test)]
-mod bodies;
-#[cfg(test)]
-mod calls;
 #[cfg(test)]
 mod checked;
 #[cfg(test)]
 mod fixture;
-#[cfg(test)]
-mod parts;
-#[cfg(test)]
-mod sources;
-#[cfg(test)]
-mod uses;
 #[cfg(test)]
 mod written;
