@@ -1,5 +1,6 @@
 // A program of many declarations, and rows of statements for its `main`.
 
+use crate::rows::behind;
 use checker_tests::marked::{count, joined, unmarked};
 use enc_ast::{Decl, Fail as Refusal, Program, Reject, Span, Stmt};
 use enc_parse::parse;
@@ -67,13 +68,9 @@ pub fn refused<'a>(rt: &impl Abort, alloc: Global, row: &'a str) -> Result<Due<'
     let Some(row) = unmarked(alloc, marked)? else {
         panic!(rt; "marked statements")
     };
-    let before = count(HEAD);
     Ok(Due {
         rule,
-        place: Span {
-            start: row.span.start.saturating_add(before),
-            end: row.span.end.saturating_add(before),
-        },
+        place: behind(row.span, count(HEAD)),
         stmts: row.text,
     })
 }

@@ -5,5 +5,6 @@
 mod checked;
 #[cfg(test)]
 mod fixture;
+pub mod rows;
 #[cfg(test)]
 mod written;
