@@ -1,12 +1,10 @@
--- An expression that has no premise that fails is well typed, where the types of its variables and the written ones are known.
-use Rattle.std.proofs.Common.{◌≡◌, ℕ, Bool, true, false, not, ◌||◌, ◌&&◌, List, map, Option, Some, None, refl, sym, ap, ◌∙◌, subst, arith}
-use Rattle.std.specs.Prelude.{is_some, option_map}
+-- An expression that has no premise that fails is well typed, where the types of its variables are known.
+use Rattle.std.proofs.Common.{◌≡◌, ℕ, Bool, true, false, not, ◌||◌, List, map, Option, Some, None, refl, sym, ap, ◌∙◌, subst, arith}
+use Rattle.std.specs.Prelude.{option_map}
 use Rattle.enc_ast.specs.declared.rules.Span.{Span}
 use Rattle.enc_ast.specs.declared.Operator.{Operator}
 use Rattle.enc_ast.specs.declared.Expr.{Expr}
-use Rattle.enc_ast.specs.declared.ExprForm.{ExprForm}
 use Rattle.enc_ast.specs.declared.ExprForm.TheOpen.{ExprForm-F}
-use Rattle.enc_ast.specs.declared.ExprForm.TheFolds.{map-ExprForm, fold-ExprForm, fold_out-ExprForm, fold_out-Expr}
 use Rattle.enc_modes.specs.declared.ty.Ty.{Ty}
 use Rattle.enc_modes.specs.declared.ty.Ty.TheVariants as ty
 use Rattle.enc_modes.specs.Modes.{is_linear, is_shareable}
@@ -18,28 +16,17 @@ use Rattle.enc_types.specs.Written.{type_of}
 use Rattle.enc_exprs.specs.declared.uses.Use.{Use}
 use Rattle.enc_exprs.specs.declared.uses.Use.TheVariants.{Copies, Consumes, Looks}
 use Rattle.enc_exprs.specs.Uses.{this_word, lets_linear}
-use Rattle.enc_exprs.specs.Types.{is_int, is_bool, is_plain, is_list, items, like, is_arithmetic, is_ordering, is_equality, is_logical}
+use Rattle.enc_exprs.specs.Types.{is_int, is_bool, is_plain, can_be_null, is_list, is_known_as, items, like, is_arithmetic, is_ordering, is_equality, is_logical}
 use Rattle.enc_exprs.specs.Exprs.{Judged, judged, judge_form, copied, binary, binary_type, after}
 use Rattle.enc_exprs.specs.Typing.{Layer, layer, TypeOf, Copied, AllCopied}
 use Rattle.enc_exprs.specs.Typing as t
-use Rattle.enc_exprs.specs.Known.{Knows, all_true, knows_form, knows_node, knows_types}
+use Rattle.enc_exprs.specs.Known.{Knows}
 use Rattle.enc_exprs.proofs.Meaning.{seen, judged_layer}
 use Rattle.enc_exprs.proofs.Variables.{Named, variable_known, kept}
 use Rattle.enc_exprs.proofs.Sorts.{int_is, bool_is, list_is}
 use Rattle.enc_ast.specs.declared.Operator.TheVariants as op
 use Rattle.enc_exprs.proofs.Same.{same_is}
 use Rattle.enc_exprs.proofs.Parts.{Built, BuiltAll, operator, negative, negated, int, text, yes, no, unit, this, name, parens, list, null, empty, nil, len, is_null, at, append, end, more, built_form}
-
--- ---- what is known of the types that are written
-
--- a layer, with what is known of its parts
-abbrev pub told : Names → Layer → ExprForm-F Bool Bool
-told names l = map-ExprForm ExprForm Expr Bool Bool (fold-ExprForm Bool Bool (knows_form names) knows_node) (knows_types names) l
-
--- an expression by its layer
-pub knows_layer : (names : Names) (x : Expr) → knows_types names x ≡ knows_form names (told names (layer x))
-unfolding knows_types
-knows_layer names x = fold_out-Expr Bool Bool (knows_form names) knows_node x ∙ fold_out-ExprForm Bool Bool (knows_form names) knows_node x.form
 
 -- ---- what holds of what has no premise that fails
 
@@ -65,11 +52,6 @@ unmoved env Looks d = d
 flip : (b : Bool) → not b ≡ true → b ≡ false
 flip true e = absurd (grind arith)
 flip false e = refl
-
--- `&&`, taken apart
-both_true : (a b : Bool) → (a && b) ≡ true → (a ≡ true) × (b ≡ true)
-both_true true b e = (refl, e)
-both_true false b e = absurd (grind arith)
 
 -- a variable whose premises hold
 name_typed : (names : Names) (env : Env) (u : Use) (x : List ℕ) (n : Named env u false x) → TypeOf names env (ExprForm-F.Name x) u n.t (after u env (Some x))
@@ -111,10 +93,16 @@ as_type {names} {env} {a} p u is = subst (λ z. Copied names env a z) is p.typed
 asked : {names : Names} {env : Env} {a : Expr} (p : Part names env a) (want : Ty → Bool) → if_known want ((judged names a).ty env) ≡ true → want p.t ≡ true
 asked p want m = rw p.ty at m
 
+-- A type that is known, and as asked.
+record IsKnown (want : Ty → Bool) (o : Option Ty) : Type 0 where
+  t : Ty
+  is : o ≡ Some t
+  meets : want t ≡ true
+
 -- what is said to be a written type
-text_known : (o : Option Ty) → is_some o ≡ true → (t : Ty) × (o ≡ Some t)
-text_known None e = absurd (grind arith)
-text_known (Some t) e = (t, refl)
+text_known : (want : Ty → Bool) (o : Option Ty) → is_known_as want o ≡ true → IsKnown want o
+text_known want None e = absurd (grind arith)
+text_known want (Some t) e = record { t = t; is = refl; meets = e }
 
 -- ---- operators
 
@@ -182,68 +170,63 @@ binary_sound names env u s o a b f g (logical k is h i) = record { t = ty.Bool; 
 
 -- how a layer is told to be well typed
 abbrev Tells : Names → Env → Use → Layer → Type 0
-Tells names env u l = knows_form names (told names l) ≡ true → (s : Span) → AllHold ((judge_form names (seen names l) s).premises env u) → Sound names env l (judge_form names (seen names l) s) u
+Tells names env u l = (s : Span) → AllHold ((judge_form names (seen names l) s).premises env u) → Sound names env l (judge_form names (seen names l) s) u
 
 -- an expression whose layer is told to be well typed
-sound_expr : (names : Names) (env : Env) (x : Expr) (u : Use) → Tells names env u (layer x) → knows_types names x ≡ true → AllHold ((judged names x).premises env u) → Sound names env (layer x) (judged names x) u
-sound_expr names env x u f w h = sound_at names env x u (f (sym (knows_layer names x) ∙ w)) h
+sound_expr : (names : Names) (env : Env) (x : Expr) (u : Use) → Tells names env u (layer x) → AllHold ((judged names x).premises env u) → Sound names env (layer x) (judged names x) u
+sound_expr names env x u f h = sound_at names env x u f h
 
 -- an operand whose layer is told to be well typed
-part : (names : Names) (env : Env) (a : Expr) → Tells names env Copies (layer a) → knows_types names a ≡ true → ToPart names env a
-part names env a f w h = let g = sound_expr names env a Copies f w h in record { t = g.t; typed = t.copied g.typed; ty = g.ty }
+part : (names : Names) (env : Env) (a : Expr) → Tells names env Copies (layer a) → ToPart names env a
+part names env a f h = let g = sound_expr names env a Copies f h in record { t = g.t; typed = t.copied g.typed; ty = g.ty }
 
 mutual
   -- a layer whose premises hold
   pub sound : {l : Layer} → Built l → (names : Names) (env : Env) → Knows env → (u : Use) → Tells names env u l
-  sound (operator {o} {a} {b} d e) names env k u w s h =
-      let v = both_true (knows_types names a) (knows_types names b) w in
-      binary_sound names env u s o a b (part names env a (sound d names env k Copies) v.0) (part names env b (sound e names env k Copies) v.1) (sides env (judged names a) (judged names b) o h)
-  sound (negative {a} d) names env k u w s h = record { t = ty.Int; typed = unmoved env u (t.negative (as_int (part names env a (sound d names env k Copies) w) (held h))); ty = refl }
-  sound (negated {a} d) names env k u w s h = record { t = ty.Bool; typed = unmoved env u (t.negated (as_bool (part names env a (sound d names env k Copies) w) (held h))); ty = refl }
-  sound int names env k u w s h = record { t = ty.Int; typed = unmoved env u t.int; ty = refl }
-  sound text names env k u w s h = record { t = ty.Text; typed = unmoved env u t.text; ty = refl }
-  sound yes names env k u w s h = record { t = ty.Bool; typed = unmoved env u t.yes; ty = refl }
-  sound no names env k u w s h = record { t = ty.Bool; typed = unmoved env u t.no; ty = refl }
-  sound unit names env k u w s h = record { t = ty.Unit; typed = unmoved env u t.unit; ty = refl }
-  sound this names env k u w s h = let n = variable_known env u true this_word s k h in record { t = n.t; typed = this_typed names env u n; ty = n.ty }
-  sound (name {x}) names env k u w s h = let n = variable_known env u false x s k h in record { t = n.t; typed = name_typed names env u x n; ty = n.ty }
-  sound (parens {a} d) names env k u w s h =
-      let p = part names env a (sound d names env k Copies) w h in
+  sound (operator {o} {a} {b} d e) names env k u s h =
+      binary_sound names env u s o a b (part names env a (sound d names env k Copies)) (part names env b (sound e names env k Copies)) (sides env (judged names a) (judged names b) o h)
+  sound (negative {a} d) names env k u s h = record { t = ty.Int; typed = unmoved env u (t.negative (as_int (part names env a (sound d names env k Copies)) (held h))); ty = refl }
+  sound (negated {a} d) names env k u s h = record { t = ty.Bool; typed = unmoved env u (t.negated (as_bool (part names env a (sound d names env k Copies)) (held h))); ty = refl }
+  sound int names env k u s h = record { t = ty.Int; typed = unmoved env u t.int; ty = refl }
+  sound text names env k u s h = record { t = ty.Text; typed = unmoved env u t.text; ty = refl }
+  sound yes names env k u s h = record { t = ty.Bool; typed = unmoved env u t.yes; ty = refl }
+  sound no names env k u s h = record { t = ty.Bool; typed = unmoved env u t.no; ty = refl }
+  sound unit names env k u s h = record { t = ty.Unit; typed = unmoved env u t.unit; ty = refl }
+  sound this names env k u s h = let n = variable_known env u true this_word s k h in record { t = n.t; typed = this_typed names env u n; ty = n.ty }
+  sound (name {x}) names env k u s h = let n = variable_known env u false x s k h in record { t = n.t; typed = name_typed names env u x n; ty = n.ty }
+  sound (parens {a} d) names env k u s h =
+      let p = part names env a (sound d names env k Copies) h in
       record { t = p.t; typed = unmoved env u (t.parens p.typed); ty = p.ty }
-  sound (list end) names env k u w s h = record { t = ty.List ty.Unit; typed = unmoved env u t.no_list; ty = refl }
-  sound (list (more {a} {as_} d r)) names env k u w s (join (join h (one m)) i) =
-      let v = both_true (knows_types names a) (all_true (map (knows_types names) as_)) w in
-      let p = part names env a (sound d names env k Copies) v.0 h in
-      record { t = ty.List p.t; typed = unmoved env u (t.list (asked p is_shareable m) p.typed (all_sound r names env k v.1 _ p.t p.ty i)); ty = rw p.ty refl }
-  sound (null {t = y}) names env k u w s (one m) = let p = text_known (type_of names y) w in record { t = p.0; typed = unmoved env u (t.null p.1 (rw p.1 at m)); ty = ap (option_map (λ v. v)) p.1 }
-  sound (empty {t = y}) names env k u w s (one m) = let p = text_known (type_of names y) w in record { t = ty.Par p.0; typed = unmoved env u (t.empty p.1 (rw p.1 at m)); ty = ap (option_map ty.Par) p.1 }
-  sound (nil {t = y}) names env k u w s (one m) = let p = text_known (type_of names y) w in record { t = ty.List p.0; typed = unmoved env u (t.nil p.1 (rw p.1 at m)); ty = ap (option_map ty.List) p.1 }
-  sound (len {a} d) names env k u w s (join h (one m)) =
-      let p = part names env a (sound d names env k Copies) w h in
+  sound (list end) names env k u s h = record { t = ty.List ty.Unit; typed = unmoved env u t.no_list; ty = refl }
+  sound (list (more {a} {as_} d r)) names env k u s (join (join h (one m)) i) =
+      let p = part names env a (sound d names env k Copies) h in
+      record { t = ty.List p.t; typed = unmoved env u (t.list (asked p is_shareable m) p.typed (all_sound r names env k _ p.t p.ty i)); ty = rw p.ty refl }
+  sound (null {t = y}) names env k u s (one m) = let p = text_known can_be_null (type_of names y) m in record { t = p.t; typed = unmoved env u (t.null p.is p.meets); ty = ap (option_map (λ v. v)) p.is }
+  sound (empty {t = y}) names env k u s (one m) = let p = text_known is_shareable (type_of names y) m in record { t = ty.Par p.t; typed = unmoved env u (t.empty p.is p.meets); ty = ap (option_map ty.Par) p.is }
+  sound (nil {t = y}) names env k u s (one m) = let p = text_known is_shareable (type_of names y) m in record { t = ty.List p.t; typed = unmoved env u (t.nil p.is p.meets); ty = ap (option_map ty.List) p.is }
+  sound (len {a} d) names env k u s (join h (one m)) =
+      let p = part names env a (sound d names env k Copies) h in
       let i = list_is p.t (asked p is_list m) in
       record { t = ty.Int; typed = unmoved env u (t.len i.item (as_type p (ty.List i.item) i.is)); ty = refl }
-  sound (is_null {a} d) names env k u w s (join h (one m)) =
-      let f = sound_expr names env a Looks (sound d names env k Looks) w h in
+  sound (is_null {a} d) names env k u s (join h (one m)) =
+      let f = sound_expr names env a Looks (sound d names env k Looks) h in
       record { t = ty.Bool; typed = unmoved env u (t.is_null f.t (rw f.ty at m) f.typed); ty = refl }
-  sound (at {a} {b} d e) names env k u w s (join (join h (one m)) g) =
-      let v = both_true (knows_types names a) (knows_types names b) w in
-      let p = part names env a (sound d names env k Copies) v.0 h in
+  sound (at {a} {b} d e) names env k u s (join (join h (one m)) g) =
+      let p = part names env a (sound d names env k Copies) h in
       let i = list_is p.t (asked p is_list m) in
-      record { t = i.item; typed = unmoved env u (t.at (as_type p (ty.List i.item) i.is) (as_int (part names env b (sound e names env k Copies) v.1) (held g))); ty = rw p.ty i.has }
-  sound (append {a} {b} d e) names env k u w s (join (join h (one m)) g) =
-      let v = both_true (knows_types names a) (knows_types names b) w in
-      let p = part names env a (sound d names env k Copies) v.0 h in
+      record { t = i.item; typed = unmoved env u (t.at (as_type p (ty.List i.item) i.is) (as_int (part names env b (sound e names env k Copies)) (held g))); ty = rw p.ty i.has }
+  sound (append {a} {b} d e) names env k u s (join (join h (one m)) g) =
+      let p = part names env a (sound d names env k Copies) h in
       let i = list_is p.t (asked p is_list m) in
-      let c = as_like (items ((judged names a).ty env)) i.item (rw p.ty i.has) (part names env b (sound e names env k Copies) v.1) (held g) in
+      let c = as_like (items ((judged names a).ty env)) i.item (rw p.ty i.has) (part names env b (sound e names env k Copies)) (held g) in
       record { t = ty.List i.item; typed = unmoved env u (t.append (as_type p (ty.List i.item) i.is) c); ty = p.ty ∙ ap Some i.is }
 
   -- elements whose premises hold
-  all_sound : {as_ : List Expr} → BuiltAll as_ → (names : Names) (env : Env) → Knows env → all_true (map (knows_types names) as_) ≡ true → (o : Option Ty) (t' : Ty) → o ≡ Some t' → AllHold (each (copied env (like o)) (map (judged names) as_)) → AllCopied names env as_ t'
-  all_sound end names env k w o t' e h = t.end
-  all_sound (more {a} {as_} d r) names env k w o t' e (join h i) =
-      let v = both_true (knows_types names a) (all_true (map (knows_types names) as_)) w in
-      t.more (as_like o t' e (part names env a (sound d names env k Copies) v.0) (held h)) (all_sound r names env k v.1 o t' e i)
+  all_sound : {as_ : List Expr} → BuiltAll as_ → (names : Names) (env : Env) → Knows env → (o : Option Ty) (t' : Ty) → o ≡ Some t' → AllHold (each (copied env (like o)) (map (judged names) as_)) → AllCopied names env as_ t'
+  all_sound end names env k o t' e h = t.end
+  all_sound (more {a} {as_} d r) names env k o t' e (join h i) =
+      t.more (as_like o t' e (part names env a (sound d names env k Copies)) (held h)) (all_sound r names env k o t' e i)
 
 -- an expression whose premises hold is well typed
-pub expr_sound : (names : Names) (env : Env) (x : Expr) (u : Use) → Knows env → knows_types names x ≡ true → AllHold ((judged names x).premises env u) → Sound names env (layer x) (judged names x) u
-expr_sound names env x u k w h = sound_expr names env x u (sound (built_form x.form) names env k u) w h
+pub expr_sound : (names : Names) (env : Env) (x : Expr) (u : Use) → Knows env → AllHold ((judged names x).premises env u) → Sound names env (layer x) (judged names x) u
+expr_sound names env x u k h = sound_expr names env x u (sound (built_form x.form) names env k u) h

@@ -8,5 +8,4 @@ pub mod Same
 pub mod Parts
 pub mod ExprFine
 pub mod ExprSound
-pub mod WrittenTypes
 pub mod Operand

@@ -13,7 +13,7 @@ use Rattle.enc_ast.specs.declared.ExprForm.TheFolds.{map-ExprForm, fold-ExprForm
 use Rattle.enc_modes.specs.declared.ty.Ty.{Ty}
 use Rattle.enc_modes.specs.declared.ty.Ty.TheVariants as ty
 use Rattle.enc_modes.specs.Modes.{is_shareable}
-use Rattle.enc_premises.specs.Premises.{none, ◌⨾◌, node, if_known}
+use Rattle.enc_premises.specs.Premises.{none, ◌⨾◌, node}
 use Rattle.enc_premises.proofs.Passing.{nothing}
 use Rattle.enc_flow.specs.Env.{Env, find, ty_of}
 use Rattle.enc_types.specs.Names.{Names}
@@ -21,7 +21,7 @@ use Rattle.enc_types.specs.Written.{type_of}
 use Rattle.enc_exprs.specs.declared.uses.Use.{Use}
 use Rattle.enc_exprs.specs.declared.uses.Use.TheVariants.{Copies, Looks}
 use Rattle.enc_exprs.specs.Uses.{this_word, variable}
-use Rattle.enc_exprs.specs.Types.{is_int, is_bool, can_be_null, is_list, items, like}
+use Rattle.enc_exprs.specs.Types.{is_int, is_bool, can_be_null, is_list, is_known_as, items, like}
 use Rattle.enc_exprs.specs.Exprs.{Judged, judged, judge_form, judge_node, operand, copied, binary, binary_type, elements, elements_type, expr_type, expr_premises}
 use Rattle.enc_exprs.specs.Typing.{Layer}
 
@@ -155,7 +155,7 @@ pub ty-list : (names : Names) (x : Expr) (xs : List Expr) → x.form ≡ e.List 
 ty-list names x xs is env = ap (λ z. z.ty env) (of_form names x (e.List xs) (ExprForm-F.List xs) is (e.outs-List xs))
 
 -- what refers to nothing: what is asked
-pub premises-null : (names : Names) (x : Expr) (t : TypeText) → x.form ≡ e.Null t → (env : Env) (u : Use) → expr_premises names env u x ≡ node x.span ((rule.EType, if_known can_be_null (type_of names t)) ∷ [])
+pub premises-null : (names : Names) (x : Expr) (t : TypeText) → x.form ≡ e.Null t → (env : Env) (u : Use) → expr_premises names env u x ≡ node x.span ((rule.EType, is_known_as can_be_null (type_of names t)) ∷ [])
 premises-null names x t is env u = ap (λ z. z.premises env u) (of_form names x (e.Null t) (ExprForm-F.Null t) is (e.outs-Null t))
 
 -- what refers to nothing: the type
@@ -163,7 +163,7 @@ pub ty-null : (names : Names) (x : Expr) (t : TypeText) → x.form ≡ e.Null t 
 ty-null names x t is env = ap (λ z. z.ty env) (of_form names x (e.Null t) (ExprForm-F.Null t) is (e.outs-Null t)) ∙ same_option (type_of names t)
 
 -- the tree without values: what is asked
-pub premises-empty : (names : Names) (x : Expr) (t : TypeText) → x.form ≡ e.Empty t → (env : Env) (u : Use) → expr_premises names env u x ≡ node x.span ((rule.EType, if_known is_shareable (type_of names t)) ∷ [])
+pub premises-empty : (names : Names) (x : Expr) (t : TypeText) → x.form ≡ e.Empty t → (env : Env) (u : Use) → expr_premises names env u x ≡ node x.span ((rule.EType, is_known_as is_shareable (type_of names t)) ∷ [])
 premises-empty names x t is env u = ap (λ z. z.premises env u) (of_form names x (e.Empty t) (ExprForm-F.Empty t) is (e.outs-Empty t))
 
 -- the tree without values: the type
@@ -171,7 +171,7 @@ pub ty-empty : (names : Names) (x : Expr) (t : TypeText) → x.form ≡ e.Empty 
 ty-empty names x t is env = ap (λ z. z.ty env) (of_form names x (e.Empty t) (ExprForm-F.Empty t) is (e.outs-Empty t))
 
 -- the list without elements: what is asked
-pub premises-nil : (names : Names) (x : Expr) (t : TypeText) → x.form ≡ e.Nil t → (env : Env) (u : Use) → expr_premises names env u x ≡ node x.span ((rule.EType, if_known is_shareable (type_of names t)) ∷ [])
+pub premises-nil : (names : Names) (x : Expr) (t : TypeText) → x.form ≡ e.Nil t → (env : Env) (u : Use) → expr_premises names env u x ≡ node x.span ((rule.EType, is_known_as is_shareable (type_of names t)) ∷ [])
 premises-nil names x t is env u = ap (λ z. z.premises env u) (of_form names x (e.Nil t) (ExprForm-F.Nil t) is (e.outs-Nil t))
 
 -- the list without elements: the type

@@ -1,5 +1,5 @@
--- An expression in a copying place, where the types of its variables and the written ones are known.
-use Rattle.std.proofs.Common.{◌≡◌, true, Option, Some, None, sym, ◌∙◌, subst, arith}
+-- An expression in a copying place, where the types of its variables are known.
+use Rattle.std.proofs.Common.{◌≡◌, Option, Some, None, sym, ◌∙◌, subst, arith}
 use Rattle.enc_ast.specs.declared.rules.Fail.{Fail}
 use Rattle.enc_ast.specs.declared.Expr.{Expr}
 use Rattle.enc_modes.specs.declared.ty.Ty.{Ty}
@@ -10,18 +10,18 @@ use Rattle.enc_types.specs.Names.{Names}
 use Rattle.enc_exprs.specs.declared.uses.Use.TheVariants.{Copies}
 use Rattle.enc_exprs.specs.Exprs.{expr_type, expr_premises}
 use Rattle.enc_exprs.specs.Typing.{IsTyped}
-use Rattle.enc_exprs.specs.Known.{Knows, knows_types}
+use Rattle.enc_exprs.specs.Known.{Knows}
 use Rattle.enc_exprs.proofs.ExprFine.{expr_fine}
 use Rattle.enc_exprs.proofs.ExprSound.{expr_sound}
 
 -- it has a type
-pub typed_some : (names : Names) (env : Env) (x : Expr) → Knows env → knows_types names x ≡ true → Agrees None (expr_premises names env Copies x) → (t : Ty) × (expr_type names env x ≡ Some t)
-typed_some names env x k w h = let s = expr_sound names env x Copies k w (tells None (expr_premises names env Copies x) h) in (s.t, s.ty)
+pub typed_some : (names : Names) (env : Env) (x : Expr) → Knows env → Agrees None (expr_premises names env Copies x) → (t : Ty) × (expr_type names env x ≡ Some t)
+typed_some names env x k h = let s = expr_sound names env x Copies k (tells None (expr_premises names env Copies x) h) in (s.t, s.ty)
 
 -- and is well typed
-pub typed_ok : (names : Names) (env : Env) (x : Expr) (t : Ty) → Knows env → knows_types names x ≡ true → Agrees None (expr_premises names env Copies x) → expr_type names env x ≡ Some t → IsTyped names env x Copies t env
-typed_ok names env x t k w h e =
-    let s = expr_sound names env x Copies k w (tells None (expr_premises names env Copies x) h) in
+pub typed_ok : (names : Names) (env : Env) (x : Expr) (t : Ty) → Knows env → Agrees None (expr_premises names env Copies x) → expr_type names env x ≡ Some t → IsTyped names env x Copies t env
+typed_ok names env x t k h e =
+    let s = expr_sound names env x Copies k (tells None (expr_premises names env Copies x) h) in
     let q : Some s.t ≡ Some t = sym s.ty ∙ e in
     let is : s.t ≡ t = grind arith in
     subst (λ z. IsTyped names env x Copies z env) is s.typed

@@ -17,7 +17,7 @@ use Rattle.enc_types.specs.Written.{type_of}
 use Rattle.enc_exprs.specs.declared.uses.Use.{Use}
 use Rattle.enc_exprs.specs.declared.uses.Use.TheVariants.{Copies, Consumes, Looks}
 use Rattle.enc_exprs.specs.Uses.{this_word, variable, lends}
-use Rattle.enc_exprs.specs.Types.{is_int, is_bool, is_plain, can_be_null, is_list, items, like}
+use Rattle.enc_exprs.specs.Types.{is_int, is_bool, is_plain, can_be_null, is_list, is_known_as, items, like}
 
 -- An expression, as the rules see it.
 pub record Judged : Type 0 where
@@ -87,9 +87,9 @@ abbrev pub elements_type : Env → List Judged → Option Ty
 elements_type env [] = Some (ty.List ty.Unit)
 elements_type env (a ∷ as_) = option_map ty.List (a.ty env)
 
--- a written type of which something is asked
+-- a written type of which something is asked, where it stands for one
 abbrev pub typed : Names → (Ty → Bool) → (Ty → Ty) → Option Ty → Span → Judged
-typed names want make t s = record { span = s; name = None; ty = λ env. option_map make t; premises = λ env u. node s ((rule.EType, if_known want t) ∷ []) }
+typed names want make t s = record { span = s; name = None; ty = λ env. option_map make t; premises = λ env u. node s ((rule.EType, is_known_as want t) ∷ []) }
 
 -- a form that asks something and has this type
 abbrev form : Span → (Env → Option Ty) → (Env → Premises) → Judged

@@ -72,6 +72,11 @@ abbrev pub like : Option Ty → Ty → Bool
 like None u = true
 like (Some t) u = same t u
 
+-- whether a type is known, and as asked
+abbrev pub is_known_as : (Ty → Bool) → Option Ty → Bool
+is_known_as want None = false
+is_known_as want (Some t) = want t
+
 -- ---- what a form asks of an operand
 
 -- whether a type is as asked

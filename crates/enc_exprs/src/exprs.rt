@@ -10,7 +10,7 @@ ghost use Rattle.enc_exprs.specs.Types.{can_be_null, is_bool, is_int, is_list};
 ghost use Rattle.enc_exprs.specs.Uses.{variable as variable_premises};
 ghost use Rattle.enc_exprs.specs.Exprs as spec;
 ghost use Rattle.enc_exprs.specs.Typing.{IsTyped};
-ghost use Rattle.enc_exprs.specs.Known.{Knows, knows_types};
+ghost use Rattle.enc_exprs.specs.Known.{Knows};
 
 use crate::lists::{append, at, list};
 use crate::nothing::{empty, nil, written};
@@ -152,14 +152,12 @@ pub fn consumed(
     Ok(ty)
 }
 
-/// The type of an expression in a copying place. The types of all variables are to be known, and each type
-/// that is written in the expression is to stand for one. It answers a type exactly where the expression
-/// is well typed, and otherwise refuses by the first premise that fails; where memory runs out, it answers
-/// `Fail::Memory`.
+/// The type of an expression in a copying place. The types of all variables are to be known. It answers a
+/// type exactly where the expression is well typed, and otherwise refuses by the first premise that fails;
+/// where memory runs out, it answers `Fail::Memory`.
 #[tactic(auto, using(enc_premises::proofs::Telling::tells, crate::proofs::Operand::typed))]
 pub fn typed(alloc: Global, names: &Names, env: &Env, expr: &Expr) -> Result<Ty, Fail>
     requires variables { Knows env.now }
-    requires written { knows_types names.now expr.now ≡ true }
     ensures ok { IfOk result (λ t. IsTyped names.now env.now expr.now Copies t env.now) }
     ensures tells { Tells result (spec.expr_premises names.now env.now Copies expr.now) }
     ensures accepts { (t : Value) → IsTyped names.now env.now expr.now Copies t env.now → MemoryOnly result }

@@ -12,7 +12,7 @@ ghost use Rattle.enc_exprs.specs.declared.uses.Use.{Use as Place};
 ghost use Rattle.enc_exprs.specs.Uses.{lends, regains};
 ghost use Rattle.enc_exprs.specs.Exprs.{expr_type, expr_premises, judged, after, consumes};
 ghost use Rattle.enc_exprs.specs.Typing.{IsTyped};
-ghost use Rattle.enc_exprs.specs.Known.{Knows, knows_types};
+ghost use Rattle.enc_exprs.specs.Known.{Knows};
 
 /// An expression that is well typed has no premise that fails, and has the type and leaves the variables
 /// that the rules tell. This is a law over the definitions: the call answers nothing, changes nothing and
@@ -23,18 +23,10 @@ pub fn typed_holds()
     ensures after { (names : Names) (env last : Env) (x : Expr) (u : Place) (t : Ty) → IsTyped names env x u t last → last ≡ after u env (judged names x).name }
 {}
 
-/// An expression of which no premise fails is well typed, where the types of all variables are known and
-/// each type that is written in it stands for one. This is a law over the definitions: the call answers
-/// nothing, changes nothing and takes no memory.
+/// An expression of which no premise fails is well typed, where the types of all variables are known. This is
+/// a law over the definitions: the call answers nothing, changes nothing and takes no memory.
 pub fn held_is_typed()
-    ensures { (names : Names) (env : Env) (x : Expr) (u : Place) → Knows env → knows_types names x ≡ true → AllHold (expr_premises names env u x) → (t : Ty) × (last : Env) × IsTyped names env x u t last }
-{}
-
-/// Each type that is written in an expression stands for one, where all of them may be written and what
-/// may be written stands for a type. This is a law over the definitions: the call answers nothing, changes
-/// nothing and takes no memory.
-pub fn written_types_are_known()
-    ensures { (names : Names) (x : Expr) → ((text : TypeText) → AllHold (type_premises names text) → is_some (type_of names text) ≡ true) → AllHold (expr_types names x) → knows_types names x ≡ true }
+    ensures { (names : Names) (env : Env) (x : Expr) (u : Place) → Knows env → AllHold (expr_premises names env u x) → (t : Ty) × (last : Env) × IsTyped names env x u t last }
 {}
 
 /// The types of all variables stay known, whatever is moved, given back, declared with its type, merged or

@@ -3,7 +3,7 @@ ghost use Rattle.std.specs.Prelude.{◌≡◌, Some, IfOk};
 ghost use Rattle.std.specs.Option.{option_copied};
 ghost use Rattle.enc_premises.specs.Premises.{if_known};
 ghost use Rattle.enc_premises.specs.Passing.{Passes};
-ghost use Rattle.enc_exprs.specs.Types.{asks, is_plain as is_plain_type, like as is_like};
+ghost use Rattle.enc_exprs.specs.Types.{asks, is_known_as as known_as, is_plain as is_plain_type, like as is_like};
 ghost use Rattle.enc_exprs.specs.Exprs as spec;
 
 use crate::exprs::expr_type;
@@ -32,19 +32,35 @@ pub enum Asked {
 }
 
 /// Whether a type is as asked, where it is known.
-pub fn meets(asked: Asked, ty: Option<&Ty>) -> bool
+fn meets(asked: Asked, ty: Option<&Ty>) -> bool
     ensures { result ≡ if_known (asks asked) (option_copied ty.entry) }
 {
     match ty {
         None => true,
-        Some(ty) => match asked {
-            Asked::Int => is_int(ty),
-            Asked::Bool => is_bool(ty),
-            Asked::Plain => is_plain(ty),
-            Asked::Shareable => is_shareable(ty),
-            Asked::List => item_of(ty).is_some(),
-            Asked::Null => can_be_null(ty),
-        },
+        Some(ty) => is_as(asked, ty),
+    }
+}
+
+/// Whether a type is known, and as asked.
+pub fn is_known_as(asked: Asked, ty: Option<&Ty>) -> bool
+    ensures { result ≡ known_as (asks asked) (option_copied ty.entry) }
+{
+    match ty {
+        None => false,
+        Some(ty) => is_as(asked, ty),
+    }
+}
+
+fn is_as(asked: Asked, ty: &Ty) -> bool
+    ensures { result ≡ asks asked ty.now }
+{
+    match asked {
+        Asked::Int => is_int(ty),
+        Asked::Bool => is_bool(ty),
+        Asked::Plain => is_plain(ty),
+        Asked::Shareable => is_shareable(ty),
+        Asked::List => item_of(ty).is_some(),
+        Asked::Null => can_be_null(ty),
     }
 }
 

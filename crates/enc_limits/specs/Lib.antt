@@ -3,4 +3,5 @@ pub mod Types
 pub mod Exprs
 pub mod Sources
 pub mod Stmts
+pub mod Names
 pub mod Programs

@@ -1,5 +1,5 @@
--- A text spells one program or has one failure, and never two answers.
-use Rattle.std.proofs.Common.{◌≡◌, ℕ, ◌-◌, inl, inr, List, [], length, refl, ap, sym, subst, ◌∙◌, Result, Ok, Err, IfOk, IfErr}
+-- A text spells one program or has one failure, and has no other answer.
+use Rattle.std.proofs.Common.{◌≡◌, ◌⊎◌, ℕ, ◌-◌, inl, inr, List, [], length, refl, ap, sym, subst, ◌∙◌, Result, Ok, Err, IfOk, IfErr}
 use Rattle.enc_ast.specs.declared.rules.Span.{Span}
 use Rattle.enc_ast.specs.declared.rules.Rule.TheVariants as rules
 use Rattle.enc_ast.specs.declared.rules.Reject.{Reject}
@@ -8,17 +8,19 @@ use Rattle.enc_ast.specs.declared.rules.Fail.TheVariants as errors
 use Rattle.enc_ast.specs.declared.decls.Decl.{Decl}
 use Rattle.enc_ast.specs.declared.Program.{Program}
 use Rattle.enc_lex.specs.declared.tokens.Token.{Token}
-use Rattle.enc_lex.proofs.OneAnswer.{one_lexes, lexes_not_refused, one_refusal}
+use Rattle.enc_lex.specs.Lexes.{Lexes}
+use Rattle.enc_lex.specs.Failure as lexical
+use Rattle.enc_lex.proofs.OneAnswer.{answer_of, one_lexes, lexes_not_refused, one_refusal}
 use Rattle.enc_cursor.specs.Limits.{Limits, allowed, standard}
 use Rattle.enc_cursor.specs.Place.{Spot, first_spot}
-use Rattle.enc_cursor.specs.Steps.{Got, Wrong, Over, some}
+use Rattle.enc_cursor.specs.Steps.{Outcome, Got, Wrong, Over, some}
 use Rattle.enc_cursor.specs.Answers.{Fits}
 use Rattle.enc_cursor.proofs.Openings.{zero_fits}
-use Rattle.enc_cursor.proofs.Whole.{Whole, many_all, one_tree, is_first, is_over}
+use Rattle.enc_cursor.proofs.Whole.{Whole, many_all, one_tree, read_fits, is_first, is_over}
 use Rattle.enc_cursor.proofs.OneAnswer.{one_over, one_wrong, one_failure, fits_not_over}
 use Rattle.enc_parse.specs.Decls.{IsProgram}
 use Rattle.enc_parse.specs.DeclReading.{declaration, declarations}
-use Rattle.enc_parse.specs.Spells.{SpellsWithin, Spells}
+use Rattle.enc_parse.specs.Spells.{whole, SpellsWithin, Spells}
 use Rattle.enc_parse.specs.Failure.{place_at, RefusesTokens, Refuses}
 use Rattle.enc_parse.specs.Answers.{Fails, GivesProgram, GivesFailure, OneAnswer}
 use Rattle.enc_parse.proofs.DeclLaws.{every_kind, declarations_law}
@@ -80,8 +82,25 @@ one_first text r s (inr a) (inl b) = absurd (lexes_not_refused text a.tokens s a
 one_first text r s (inr a) (inr b) =
     one_unfit text b.tokens r s (subst (λ (w : List Token). RefusesTokens text w r) (one_lexes text a.tokens b.tokens a.lexes b.lexes) a.unfit) b.unfit
 
+-- a program, or a first failure
+abbrev Answered : List ℕ → Type 0
+Answered text = ((p : Program) × Spells text p) ⊎ ((r : Reject) × Refuses text r)
+
+-- what has tokens is read to the end, or the tokens are refused
+tokens_answered : (text : List ℕ) (tokens : List Token) → Lexes text tokens → (read : Outcome (List Decl)) → declarations text allowed 256 (first_spot tokens) ≡ read → Answered text
+tokens_answered text tokens l (Got ds b) e = inl (record { decls = ds; span = whole (length text) }, record { tokens = tokens; lexes = l; fits = read_fits (whole_text text) standard tokens ds b e; span = refl })
+tokens_answered text tokens l (Wrong b) e = inr (_, inr (record { tokens = tokens; lexes = l; unfit = wrong_at text tokens b e }))
+tokens_answered text tokens l (Over b) e = inr (_, inr (record { tokens = tokens; lexes = l; unfit = over_at text tokens b e }))
+
+answered : (text : List ℕ) → Answered text
+answered text = go (answer_of text).answer
+  where
+    go : ((tokens : List Token) × Lexes text tokens) ⊎ ((reject : Reject) × lexical.Refuses text reject) → Answered text
+    go (inl t) = tokens_answered text t.0 t.1 _ refl
+    go (inr r) = inr (r.0, inl r.1)
+
 pub one_answer : (text : List ℕ) → OneAnswer text
-one_answer text = record { one_program = one_program text; one_failure = one_first text; never_both = spells_not_refused text }
+one_answer text = record { answered = answered text; one_program = one_program text; one_failure = one_first text; never_both = spells_not_refused text }
 
 -- so what is given where both clauses hold is all that can be
 pub only_program : (text : List ℕ) (r : Result Program Fail) → IfOk r (λ program. Spells text program) → IfErr r (λ fail. Fails text fail) → (program : Program) → Spells text program → GivesProgram program r

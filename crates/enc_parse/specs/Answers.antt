@@ -1,5 +1,5 @@
 -- What may be answered for a text.
-use Rattle.std.specs.Prelude.{◌≡◌, ℕ, List, Result, Ok, Err}
+use Rattle.std.specs.Prelude.{◌≡◌, ◌⊎◌, ℕ, List, Result, Ok, Err}
 use Rattle.enc_ast.specs.declared.rules.Reject.{Reject}
 use Rattle.enc_ast.specs.declared.rules.Fail.{Fail}
 use Rattle.enc_ast.specs.declared.rules.Fail.TheVariants as fails
@@ -31,8 +31,9 @@ GivesFailure reject (Ok given) = ⊥
 GivesFailure reject (Err (fails.Reject given)) = given ≡ reject
 GivesFailure reject (Err fails.Memory) = Unit {0}
 
--- A text has one answer: it spells one program at most, whatever the limits, it has one first failure at most, and never both.
+-- A text has one answer: it spells a program or has a first failure, never both, and one of them at most, whatever the limits of what it spells.
 pub record OneAnswer (text : List ℕ) : Type 0 where
+  pub answered : ((p : Program) × Spells text p) ⊎ ((r : Reject) × Refuses text r)
   pub one_program : (L M : Limits) (p q : Program) → SpellsWithin L text p → SpellsWithin M text q → p ≡ q
   pub one_failure : (r s : Reject) → Refuses text r → Refuses text s → r ≡ s
   pub never_both : (p : Program) (r : Reject) → Spells text p → Refuses text r → ⊥

@@ -90,7 +90,7 @@ pub fn parse(alloc: Global, text: &[u8]) -> Result<Program, Fail>
     // What runs of a program has no more statements than the text has bytes.
     ensures few { IfOk result (λ program. length (body_of program) ≤ length text.now) }
 
-    // And a text has one answer at most.
+    // And every text has one answer.
     ensures one_answer { OneAnswer text.now }
 {
     program_of(alloc, text)

@@ -16,8 +16,7 @@ use Rattle.enc_types.specs.Words.{place_in, every}
 use Rattle.enc_types.specs.Names.{word_of, alt_by, alt_in, found, found_at, number_of, trait_of, trait_named, group_of, groups_of, meaning_of, names_of}
 use Rattle.enc_types.specs.Written.{are_traits}
 use Rattle.enc_decls.specs.Rules.{group_premises, decl_premises, table_premises, HasTables}
-use Rattle.enc_exprs.proofs.WrittenTypes.{AreKnown}
-use Rattle.enc_rules.proofs.TypesKnown.{ClassesKnown, all_there_known, mapped_known, types_known}
+use Rattle.enc_rules.proofs.TypesKnown.{AreKnown, ClassesKnown, all_there_known, mapped_known, types_known}
 
 -- ---- traits by their names
 

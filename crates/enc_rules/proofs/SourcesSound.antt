@@ -14,12 +14,11 @@ use Rattle.enc_modes.specs.declared.ty.Ty.{Ty}
 use Rattle.enc_modes.specs.declared.ty.Ty.TheVariants as ty
 use Rattle.enc_modes.specs.Equality.{same}
 use Rattle.enc_modes.specs.Modes.{is_linear, is_sendable, is_shareable}
-use Rattle.enc_premises.specs.Premises.{if_known, ◌⨾◌}
+use Rattle.enc_premises.specs.Premises.{if_known}
 use Rattle.enc_premises.specs.First.{AllHold, one, join}
 use Rattle.enc_flow.specs.Env.{Env, find}
 use Rattle.enc_types.specs.Words.{every}
 use Rattle.enc_types.specs.Names.{Names}
-use Rattle.enc_types.specs.Bodies.{expr_types, exprs_types, source_types}
 use Rattle.enc_names.specs.declared.members.Slot.{Slot}
 use Rattle.enc_names.specs.declared.members.Signature.{Signature}
 use Rattle.enc_names.specs.Lookups.{class_named}
@@ -32,7 +31,6 @@ use Rattle.enc_exprs.specs.Typing.{IsTyped, Copied, layer}
 use Rattle.enc_exprs.specs.Typing as e
 use Rattle.enc_exprs.specs.Known.{Knows}
 use Rattle.enc_exprs.proofs.ExprSound.{Sound, expr_sound}
-use Rattle.enc_exprs.proofs.WrittenTypes.{AreKnown, expr_known}
 use Rattle.enc_exprs.proofs.Knowing.{knows_lends, knows_regains, knows_consumes}
 use Rattle.enc_exprs.proofs.Variables.{Named, variable_known}
 use Rattle.enc_exprs.proofs.Same.{same_is}
@@ -68,9 +66,9 @@ visible_there env x s (one h) = h
 
 -- ---- expressions
 
--- an expression in a place, whose types may be written
-pub expr_typed : (names : Names) (env : Env) (u : Use) (x : Expr) → AreKnown names → Knows env → AllHold (expr_types names x) → AllHold (expr_premises names env u x) → Sound names env (layer x) (judged names x) u
-expr_typed names env u x w k v h = expr_sound names env x u k (expr_known names x w v) h
+-- an expression in a place
+pub expr_typed : (names : Names) (env : Env) (u : Use) (x : Expr) → Knows env → AllHold (expr_premises names env u x) → Sound names env (layer x) (judged names x) u
+expr_typed names env u x k h = expr_sound names env x u k h
 
 -- an operand in a copying place
 pub record Operand (names : Names) (env : Env) (x : Expr) : Type 0 where
@@ -78,10 +76,10 @@ pub record Operand (names : Names) (env : Env) (x : Expr) : Type 0 where
   pub typed : Copied names env x t
   pub ty : expr_type names env x ≡ Some t
 
--- an operand in a copying place, whose types may be written
-pub operand_typed : (names : Names) (env : Env) (x : Expr) → AreKnown names → Knows env → AllHold (expr_types names x) → AllHold (expr_premises names env Copies x) → Operand names env x
-operand_typed names env x w k v h =
-    let f = expr_typed names env Copies x w k v h in
+-- an operand in a copying place, whose premises hold
+pub operand_typed : (names : Names) (env : Env) (x : Expr) → Knows env → AllHold (expr_premises names env Copies x) → Operand names env x
+operand_typed names env x k h =
+    let f = expr_typed names env Copies x k h in
     record { t = f.t; typed = e.copied f.typed; ty = f.ty }
 
 -- the same type by another name
@@ -96,22 +94,22 @@ record Args (names : Names) (env : Env) (ps : List Slot) (xs : List Expr) : Type
   knows : Knows (after_args names env xs)
 
 -- arguments one after another
-args_typed : (names : Names) (xs : List Expr) (ps : List Slot) (env : Env) → AreKnown names → Knows env → length ps ≡ length xs → AllHold (exprs_types names xs) → AllHold (arguments env ps (map (judged names) xs)) → Args names env ps xs
-args_typed names [] [] env w k l v h = record { typed = t.end; knows = k }
-args_typed names [] (p ∷ ps) env w k l v h = absurd (omega arith)
-args_typed names (x ∷ xs) [] env w k l v h = absurd (omega arith)
-args_typed names (x ∷ xs) (p ∷ ps) env w k l (join v vs) (join (join h (one m)) i) =
-    let f = expr_typed names env Consumes x w k v h in
+args_typed : (names : Names) (xs : List Expr) (ps : List Slot) (env : Env) → Knows env → length ps ≡ length xs → AllHold (arguments env ps (map (judged names) xs)) → Args names env ps xs
+args_typed names [] [] env k l h = record { typed = t.end; knows = k }
+args_typed names [] (p ∷ ps) env k l h = absurd (omega arith)
+args_typed names (x ∷ xs) [] env k l h = absurd (omega arith)
+args_typed names (x ∷ xs) (p ∷ ps) env k l (join (join h (one m)) i) =
+    let f = expr_typed names env Consumes x k h in
     let is : p.ty ≡ f.t = same_is p.ty f.t (rw f.ty at m) in
     let mid : Env = consumes env (judged names x).name in
-    let g = args_typed names xs ps mid w (knows_consumes k (judged names x).name) (omega arith) vs i in
+    let g = args_typed names xs ps mid (knows_consumes k (judged names x).name) (omega arith) i in
     record { typed = t.more mid (subst (λ z. IsTyped names env x Consumes z mid) (sym is) f.typed) g.typed; knows = g.knows }
 
 -- as many arguments as parameters
-asked_typed : (names : Names) (env : Env) (ps : List Slot) (xs : List Expr) → AreKnown names → Knows env → (length ps == length xs) ≡ true → AllHold (exprs_types names xs) → AllHold (arguments_of names env (Some ps) xs) → Args names env ps xs
-asked_typed names env ps xs w k l v h =
+asked_typed : (names : Names) (env : Env) (ps : List Slot) (xs : List Expr) → Knows env → (length ps == length xs) ≡ true → AllHold (arguments_of names env (Some ps) xs) → Args names env ps xs
+asked_typed names env ps xs k l h =
     let m : length ps ≡ length xs = grind (arith, nat_tests) in
-    args_typed names xs ps env w k m v (subst (λ b. AllHold (arguments env (cond b ps []) (map (judged names) xs))) l h)
+    args_typed names xs ps env k m (subst (λ b. AllHold (arguments env (cond b ps []) (map (judged names) xs))) l h)
 
 -- ---- receivers
 
@@ -126,10 +124,10 @@ record Invoked (names : Names) (env : Env) (to : Receiver) (t : Ty) (ps : List S
   knows : Knows (after_invoked names env to xs)
 
 -- a receiver and its arguments
-invoked_typed : (names : Names) (env : Env) (to : Receiver) (ps : List Slot) (xs : List Expr) (n : Named env Looks (is_this to) (receiver_word to)) → AreKnown names → Knows env → (length ps == length xs) ≡ true → AllHold (exprs_types names xs) → AllHold (invoked names env to (Some ps) xs) → Invoked names env to n.t ps xs
+invoked_typed : (names : Names) (env : Env) (to : Receiver) (ps : List Slot) (xs : List Expr) (n : Named env Looks (is_this to) (receiver_word to)) → Knows env → (length ps == length xs) ≡ true → AllHold (invoked names env to (Some ps) xs) → Invoked names env to n.t ps xs
 unfolding invoked after_invoked
-invoked_typed names env to ps xs n w k l v (join h i) =
-    let a = asked_typed names (lends env (receiver_word to)) ps xs w (knows_lends k (receiver_word to)) l v i in
+invoked_typed names env to ps xs n k l (join h i) =
+    let a = asked_typed names (lends env (receiver_word to)) ps xs (knows_lends k (receiver_word to)) l i in
     record {
       typed = record { end = after_args names (lends env (receiver_word to)) xs; e-var_moved = n.usable; arguments = a.typed; after = refl };
       knows = knows_regains a.knows (receiver_word to);
@@ -197,21 +195,21 @@ pub record SourceSound (ctx : Context) (env : Env) (src : SourceForm) (o : Outco
 
 -- how a source is told to be well typed by its shape
 abbrev Tells : Context → Env → SourceForm → Outcome → Type 0
-Tells ctx env src o = AllHold (source_types ctx.tables.names src) → AllHold o.parts → o.own.1 ≡ true → o.more.1 ≡ true → SourceSound ctx env src o
+Tells ctx env src o = AllHold o.parts → o.own.1 ≡ true → o.more.1 ≡ true → SourceSound ctx env src o
 
-module _ (ctx : Context) (env : Env) (w : AreKnown ctx.tables.names) (k : Knows env) where
+module _ (ctx : Context) (env : Env) (k : Knows env) where
   -- a part of the type of an operand
-  part_sound : (src : SourceForm) (r : Rule) (of : Ty → Option Ty) (make : Ty → Ty) (x : Expr) → ((p : Operand ctx.tables.names env x) (u : Ty) → of p.t ≡ Some u → Gives ctx env src (make u) env) → AllHold (expr_types ctx.tables.names x) → AllHold (part ctx env r of make x).parts → (part ctx env r of make x).own.1 ≡ true → SourceSound ctx env src (part ctx env r of make x)
-  part_sound src r of make x typed v h own =
-      let p = operand_typed ctx.tables.names env x w k v h in
+  part_sound : (src : SourceForm) (r : Rule) (of : Ty → Option Ty) (make : Ty → Ty) (x : Expr) → ((p : Operand ctx.tables.names env x) (u : Ty) → of p.t ≡ Some u → Gives ctx env src (make u) env) → AllHold (part ctx env r of make x).parts → (part ctx env r of make x).own.1 ≡ true → SourceSound ctx env src (part ctx env r of make x)
+  part_sound src r of make x typed h own =
+      let p = operand_typed ctx.tables.names env x k h in
       let u = some_there (of p.t) (rw p.ty at own) in
       record { t = make u.0; typed = typed p u.0 u.1; ty = ap (λ z. option_map make (option_and_then of z)) p.ty ∙ ap (option_map make) u.1; knows = k }
 
   -- two trees of one type
-  trees_sound : (src : SourceForm) (x y : Expr) → ((t : Ty) → Copied ctx.tables.names env x (ty.Par t) → Copied ctx.tables.names env y (ty.Par t) → Gives ctx env src (ty.Par t) env) → AllHold (expr_types ctx.tables.names x ⨾ expr_types ctx.tables.names y) → AllHold (trees ctx env x y).parts → (trees ctx env x y).own.1 ≡ true → SourceSound ctx env src (trees ctx env x y)
-  trees_sound src x y typed (join v v') (join h h') own =
-      let p = operand_typed ctx.tables.names env x w k v h in
-      let q = operand_typed ctx.tables.names env y w k v' h' in
+  trees_sound : (src : SourceForm) (x y : Expr) → ((t : Ty) → Copied ctx.tables.names env x (ty.Par t) → Copied ctx.tables.names env y (ty.Par t) → Gives ctx env src (ty.Par t) env) → AllHold (trees ctx env x y).parts → (trees ctx env x y).own.1 ≡ true → SourceSound ctx env src (trees ctx env x y)
+  trees_sound src x y typed (join h h') own =
+      let p = operand_typed ctx.tables.names env x k h in
+      let q = operand_typed ctx.tables.names env y k h' in
       let known : (is_some (tree_of p.t) && (is_some (tree_of q.t) && same p.t q.t)) ≡ true = rw (p.ty, q.ty) at own in
       let a = both_true (is_some (tree_of p.t)) (is_some (tree_of q.t) && same p.t q.t) known in
       let b = both_true (is_some (tree_of q.t)) (same p.t q.t) a.1 in
@@ -220,14 +218,14 @@ module _ (ctx : Context) (env : Env) (w : AreKnown ctx.tables.names) (k : Knows 
       record { t = ty.Par u.0; typed = typed u.0 (as_type p (ty.Par u.0) is) (as_type q (ty.Par u.0) (sym (same_is p.t q.t b.1) ∙ is)); ty = p.ty ∙ ap Some is; knows = k }
 
   -- a function for a part of the type of an operand
-  applied_sound : (src : SourceForm) (r : Rule) (of : Ty → Option Ty) (make : Ty → Ty) (x : Expr) (f : Name) (xs : List Expr) → ((p : Operand ctx.tables.names env x) (v u : Ty) (last : Env) → of p.t ≡ Some v → Applies ctx env f v xs u last → Gives ctx env src (make u) last) → AllHold (expr_types ctx.tables.names x ⨾ exprs_types ctx.tables.names xs) → AllHold (applied ctx env r of make x f xs).parts → (applied ctx env r of make x f xs).own.1 ≡ true → SourceSound ctx env src (applied ctx env r of make x f xs)
-  applied_sound src r of make x f xs typed (join v vs) (join h i) own =
-      let p = operand_typed ctx.tables.names env x w k v h in
+  applied_sound : (src : SourceForm) (r : Rule) (of : Ty → Option Ty) (make : Ty → Ty) (x : Expr) (f : Name) (xs : List Expr) → ((p : Operand ctx.tables.names env x) (v u : Ty) (last : Env) → of p.t ≡ Some v → Applies ctx env f v xs u last → Gives ctx env src (make u) last) → AllHold (applied ctx env r of make x f xs).parts → (applied ctx env r of make x f xs).own.1 ≡ true → SourceSound ctx env src (applied ctx env r of make x f xs)
+  applied_sound src r of make x f xs typed (join h i) own =
+      let p = operand_typed ctx.tables.names env x k h in
       let function : Option Signature = function_of ctx.tables f.word in
       let a = both_true (is_some (of p.t)) (applies function (length xs) (of p.t)) (subst (λ z. (if_known (λ t. is_some (of t)) z && applies function (length xs) (option_and_then of z)) ≡ true) p.ty own) in
       let u = some_there (of p.t) a.0 in
       let fits = fits_there function (length xs) u.0 (subst (λ z. applies function (length xs) z ≡ true) u.1 a.1) in
-      let g = asked_typed ctx.tables.names env fits.rest xs w k fits.long vs (further_hold ctx.tables.names env function (length xs) u.0 xs fits i) in
+      let g = asked_typed ctx.tables.names env fits.rest xs k fits.long (further_hold ctx.tables.names env function (length xs) u.0 xs fits i) in
       record {
         t = make fits.function.result;
         typed = typed p u.0 fits.function.result (after_args ctx.tables.names env xs) u.1 (fits_applies ctx env (after_args ctx.tables.names env xs) f u.0 xs fits g.typed);
@@ -237,24 +235,24 @@ module _ (ctx : Context) (env : Env) (w : AreKnown ctx.tables.names) (k : Knows 
 
   -- a call
   pub call_sound : (to : Receiver) (m : Name) (xs : List Expr) → Tells ctx env (s.Call to m xs) (call ctx env to m xs)
-  call_sound to m xs v h own more =
+  call_sound to m xs h own more =
       let method : Option Signature = called ctx.tables (receiver_type env to) m.word in
       let n = receiver_known ctx.tables.names env to (params_of method) xs k h in
       let c = both_true (is_this to || is_cap n.t) (takes (params_of method) (length xs)) (subst (λ z. may_call to method (length xs) z ≡ true) n.ty own) in
       let d = takes_there method (length xs) c.1 in
-      let i = invoked_typed ctx.tables.names env to d.method.params xs n w k d.long v (subst (λ z. AllHold (invoked ctx.tables.names env to (params_of z) xs)) d.is h) in
+      let i = invoked_typed ctx.tables.names env to d.method.params xs n k d.long (subst (λ z. AllHold (invoked ctx.tables.names env to (params_of z) xs)) d.is h) in
       let is : called ctx.tables (Some n.t) m.word ≡ Some d.method = ap (λ z. called ctx.tables z m.word) (sym n.ty) ∙ d.is in
       let enter : may_enter to (Some d.method) (Some n.t) ≡ true = subst (λ z. may_enter to z (Some n.t) ≡ true) d.is (subst (λ z. may_enter to method z ≡ true) n.ty more) in
       record { t = d.method.result; typed = t.call n.t d.method i.typed c.0 is enter; ty = ap result_of d.is; knows = i.knows }
 
   -- a send
   pub send_sound : (to : Receiver) (m : Name) (xs : List Expr) → Tells ctx env (s.Send to m xs) (send ctx env to m xs)
-  send_sound to m xs v h own more =
+  send_sound to m xs h own more =
       let method : Option Signature = sent ctx.tables (receiver_type env to) m.word in
       let n = receiver_known ctx.tables.names env to (params_of method) xs k h in
       let c = both_true (is_target n.t) (takes (params_of method) (length xs)) (subst (λ z. may_send method (length xs) z ≡ true) n.ty own) in
       let d = takes_there method (length xs) c.1 in
-      let i = invoked_typed ctx.tables.names env to d.method.params xs n w k d.long v (subst (λ z. AllHold (invoked ctx.tables.names env to (params_of z) xs)) d.is h) in
+      let i = invoked_typed ctx.tables.names env to d.method.params xs n k d.long (subst (λ z. AllHold (invoked ctx.tables.names env to (params_of z) xs)) d.is h) in
       let is : sent ctx.tables (Some n.t) m.word ≡ Some d.method = ap (λ z. sent ctx.tables z m.word) (sym n.ty) ∙ d.is in
       let travel = both_true (every (λ p. is_sendable p.ty) d.method.params) (is_shareable d.method.result) (subst (λ z. may_travel z ≡ true) d.is more) in
       record { t = ty.Fut d.method.result; typed = t.send n.t d.method i.typed c.0 is travel.0 travel.1; ty = ap (λ z. option_map ty.Fut (result_of z)) d.is; knows = i.knows }
@@ -264,28 +262,28 @@ module _ (ctx : Context) (env : Env) (w : AreKnown ctx.tables.names) (k : Knows 
   -- each source, by its shape
   pub source_sound : (src : SourceForm) → Tells ctx env src (outcome ctx env src)
   unfolding outcome
-  source_sound (s.Expr x) v h own more =
-      let f = expr_typed ctx.tables.names env Consumes x w k v h in
+  source_sound (s.Expr x) h own more =
+      let f = expr_typed ctx.tables.names env Consumes x k h in
       record { t = f.t; typed = t.value f.typed; ty = f.ty; knows = knows_consumes k (judged ctx.tables.names x).name }
-  source_sound (s.New c) v h own more = let p = some_there (class_named ctx.tables.names c.word) own in record { t = p.0; typed = t.new p.1; ty = p.1; knows = k }
-  source_sound (s.Field y x) v h own more =
+  source_sound (s.New c) h own more = let p = some_there (class_named ctx.tables.names c.word) own in record { t = p.0; typed = t.new p.1; ty = p.1; knows = k }
+  source_sound (s.Field y x) h own more =
       let p = field_there (λ z. not (is_linear z)) (field_type ctx x.word) own in
       record { t = p.0; typed = t.field (visible_there env this_word y h) p.1 (flip (is_linear p.0) p.2); ty = p.1; knows = k }
-  source_sound (s.Take y x) v h own more =
+  source_sound (s.Take y x) h own more =
       let p = field_there is_linear (field_type ctx x.word) own in
       record { t = p.0; typed = t.take (visible_there env this_word y h) p.1 p.2; ty = p.1; knows = k }
-  source_sound (s.Call to m xs) v h own more = call_sound to m xs v h own more
-  source_sound (s.Send to m xs) v h own more = send_sound to m xs v h own more
-  source_sound (s.Get x) v h own more = part_sound (s.Get x) rule.SGet future_of (λ z. z) x (λ p u e. t.get (as_type p (ty.Fut u) (future_is p.t u e))) v h own
-  source_sound (s.Await x) v h own more = part_sound (s.Await x) rule.SAwait future_of (λ z. z) x (λ p u e. t.await (as_type p (ty.Fut u) (future_is p.t u e))) v h own
-  source_sound (s.Chain x f xs) v h own more = applied_sound (s.Chain x f xs) rule.SChain future_of ty.Fut x f xs (λ p v u last e a. t.chain v (as_type p (ty.Fut v) (future_is p.t v e)) a) v h own
-  source_sound (s.Lift x) v h own more = part_sound (s.Lift x) rule.SPart (shared ctx env) ty.Par x (λ p u e. let q = shared_is ctx env p.t u e in t.lift (as_type p u q.1) (subst (λ z. is_shareable z ≡ true) q.1 q.0)) v h own
-  source_sound (s.LiftFuture x) v h own more = part_sound (s.LiftFuture x) rule.SPart future_of ty.Par x (λ p u e. t.lift_future u (as_type p (ty.Fut u) (future_is p.t u e))) v h own
-  source_sound (s.Each x) v h own more = part_sound (s.Each x) rule.SPart item_of ty.Par x (λ p u e. t.each u (as_type p (ty.List u) (item_is p.t u e))) v h own
-  source_sound (s.Both x y) v h own more = trees_sound (s.Both x y) x y (λ t' d c. t.both t' d c) v h own
-  source_sound (s.Otherwise x y) v h own more = trees_sound (s.Otherwise x y) x y (λ t' d c. t.otherwise t' d c) v h own
-  source_sound (s.Seq x f xs) v h own more = applied_sound (s.Seq x f xs) rule.SPart tree_of ty.Par x f xs (λ p v u last e a. t.seq v (as_type p (ty.Par v) (tree_is p.t v e)) a) v h own
-  source_sound (s.Join x) v h own more = part_sound (s.Join x) rule.SPart tree_of_trees ty.Par x (λ p u e. t.join u (as_type p (ty.Par (ty.Par u)) (trees_is p.t u e))) v h own
-  source_sound (s.Prune x) v h own more = part_sound (s.Prune x) rule.SPart tree_of ty.Par x (λ p u e. t.prune u (as_type p (ty.Par u) (tree_is p.t u e))) v h own
-  source_sound (s.Extract x) v h own more = part_sound (s.Extract x) rule.SPart tree_of ty.List x (λ p u e. t.extract u (as_type p (ty.Par u) (tree_is p.t u e))) v h own
-  source_sound (s.Bestow x) v h own more = part_sound (s.Bestow x) rule.SBestow (bestowed ctx env) (λ z. z) x (λ p u e. let b = bestowed_is ctx env p.t u e in subst (λ z. Gives ctx env (s.Bestow x) z env) b.is (t.bestow p.t p.typed b.local)) v h own
+  source_sound (s.Call to m xs) h own more = call_sound to m xs h own more
+  source_sound (s.Send to m xs) h own more = send_sound to m xs h own more
+  source_sound (s.Get x) h own more = part_sound (s.Get x) rule.SGet future_of (λ z. z) x (λ p u e. t.get (as_type p (ty.Fut u) (future_is p.t u e))) h own
+  source_sound (s.Await x) h own more = part_sound (s.Await x) rule.SAwait future_of (λ z. z) x (λ p u e. t.await (as_type p (ty.Fut u) (future_is p.t u e))) h own
+  source_sound (s.Chain x f xs) h own more = applied_sound (s.Chain x f xs) rule.SChain future_of ty.Fut x f xs (λ p v u last e a. t.chain v (as_type p (ty.Fut v) (future_is p.t v e)) a) h own
+  source_sound (s.Lift x) h own more = part_sound (s.Lift x) rule.SPart (shared ctx env) ty.Par x (λ p u e. let q = shared_is ctx env p.t u e in t.lift (as_type p u q.1) (subst (λ z. is_shareable z ≡ true) q.1 q.0)) h own
+  source_sound (s.LiftFuture x) h own more = part_sound (s.LiftFuture x) rule.SPart future_of ty.Par x (λ p u e. t.lift_future u (as_type p (ty.Fut u) (future_is p.t u e))) h own
+  source_sound (s.Each x) h own more = part_sound (s.Each x) rule.SPart item_of ty.Par x (λ p u e. t.each u (as_type p (ty.List u) (item_is p.t u e))) h own
+  source_sound (s.Both x y) h own more = trees_sound (s.Both x y) x y (λ t' d c. t.both t' d c) h own
+  source_sound (s.Otherwise x y) h own more = trees_sound (s.Otherwise x y) x y (λ t' d c. t.otherwise t' d c) h own
+  source_sound (s.Seq x f xs) h own more = applied_sound (s.Seq x f xs) rule.SPart tree_of ty.Par x f xs (λ p v u last e a. t.seq v (as_type p (ty.Par v) (tree_is p.t v e)) a) h own
+  source_sound (s.Join x) h own more = part_sound (s.Join x) rule.SPart tree_of_trees ty.Par x (λ p u e. t.join u (as_type p (ty.Par (ty.Par u)) (trees_is p.t u e))) h own
+  source_sound (s.Prune x) h own more = part_sound (s.Prune x) rule.SPart tree_of ty.Par x (λ p u e. t.prune u (as_type p (ty.Par u) (tree_is p.t u e))) h own
+  source_sound (s.Extract x) h own more = part_sound (s.Extract x) rule.SPart tree_of ty.List x (λ p u e. t.extract u (as_type p (ty.Par u) (tree_is p.t u e))) h own
+  source_sound (s.Bestow x) h own more = part_sound (s.Bestow x) rule.SBestow (bestowed ctx env) (λ z. z) x (λ p u e. let b = bestowed_is ctx env p.t u e in subst (λ z. Gives ctx env (s.Bestow x) z env) b.is (t.bestow p.t p.typed b.local)) h own

@@ -17,7 +17,7 @@ use Rattle.enc_flow.specs.Env.{Env, find, ty_of, declares, merged, cut}
 use Rattle.enc_types.specs.Words.{every}
 use Rattle.enc_types.specs.Names.{trait_named}
 use Rattle.enc_types.specs.Written.{type_of}
-use Rattle.enc_types.specs.Bodies.{in_row, expr_types, exprs_types, stmt_form, stmt_types}
+use Rattle.enc_types.specs.Bodies.{in_row, stmt_form, stmt_types}
 use Rattle.enc_exprs.specs.declared.uses.Use.TheVariants.{Copies, Consumes}
 use Rattle.enc_exprs.specs.Uses.{this_word, lends}
 use Rattle.enc_exprs.specs.Types.{is_plain}
@@ -25,7 +25,7 @@ use Rattle.enc_exprs.specs.Exprs.{judged, expr_type, expr_premises}
 use Rattle.enc_exprs.specs.Typing.{IsTyped, Copied}
 use Rattle.enc_exprs.specs.Known.{Knows}
 use Rattle.enc_exprs.proofs.Knowing.{knows_find, knows_lends, knows_regains, knows_consumes, knows_declares, knows_merged, knows_take}
-use Rattle.enc_exprs.proofs.WrittenTypes.{AreKnown}
+use Rattle.enc_rules.proofs.TypesKnown.{AreKnown}
 use Rattle.enc_exprs.proofs.Variables.{variable_known}
 use Rattle.enc_exprs.proofs.Sorts.{bool_is}
 use Rattle.enc_exprs.proofs.Same.{same_is}
@@ -58,18 +58,18 @@ ty_known env x k h =
     (q.0, ap ty_of p.1 ∙ q.1)
 
 -- a condition
-cond_sound : (ctx : Context) (env : Env) (x : Expr) (r : Rule) → AreKnown ctx.tables.names → Knows env → AllHold (expr_types ctx.tables.names x) → AllHold (condition ctx env r x) → Copied (names_of ctx) env x ty.Bool
-cond_sound ctx env x r w k v (join h (one m)) =
-    let p = operand_typed ctx.tables.names env x w k v h in
+cond_sound : (ctx : Context) (env : Env) (x : Expr) (r : Rule) → Knows env → AllHold (condition ctx env r x) → Copied (names_of ctx) env x ty.Bool
+cond_sound ctx env x r k (join h (one m)) =
+    let p = operand_typed ctx.tables.names env x k h in
     as_type p ty.Bool (bool_is p.t (rw p.ty at m))
 
 -- values that can be printed
-prints_sound : (ctx : Context) (env : Env) (xs : List Expr) → AreKnown ctx.tables.names → Knows env → AllHold (exprs_types ctx.tables.names xs) → AllHold (each (expr_premises ctx.tables.names env Copies) xs) → every (prints ctx env) xs ≡ true → AllPrint (names_of ctx) env xs
-prints_sound ctx env [] w k v h m = t.end
-prints_sound ctx env (x ∷ xs) w k (join v vs) (join h i) m =
-    let p = operand_typed ctx.tables.names env x w k v h in
+prints_sound : (ctx : Context) (env : Env) (xs : List Expr) → Knows env → AllHold (each (expr_premises ctx.tables.names env Copies) xs) → every (prints ctx env) xs ≡ true → AllPrint (names_of ctx) env xs
+prints_sound ctx env [] k h m = t.end
+prints_sound ctx env (x ∷ xs) k (join h i) m =
+    let p = operand_typed ctx.tables.names env x k h in
     let b = both_true (prints ctx env x) (every (prints ctx env) xs) m in
-    t.more p.t p.typed (subst (λ z. if_known is_plain z ≡ true) p.ty b.0) (prints_sound ctx env xs w k vs i b.1)
+    t.more p.t p.typed (subst (λ z. if_known is_plain z ≡ true) p.ty b.0) (prints_sound ctx env xs k i b.1)
 
 -- the types of both parts are known
 split_known : (w l r : Option Ty) (t u v : Ty) → w ≡ Some t → l ≡ Some u → r ≡ Some v → split_ok w l r ≡ true → split_ok (Some t) (Some u) (Some v) ≡ true
@@ -93,36 +93,36 @@ mutual
   -- each statement
   pub sound : {l : Layer} → Built l → (ctx : Context) (env : Env) → AreKnown ctx.tables.names → Knows env → Tells ctx env l
   sound (binds {x} {src}) ctx env w k v s (join h (join (one n) (join (one o) (join (one m) (one a))))) =
-      let f = source_sound ctx env w k src.form v h o m in
+      let f = source_sound ctx env k src.form h o m in
       record { typed = subst (λ z. Types ctx env (StmtForm-F.Let x src) (declares (outcome ctx env src.form).after x.word z)) (sym f.ty) (t.binds f.t f.typed (flip _ n) (flip _ a)); knows = subst (λ z. Knows (declares (outcome ctx env src.form).after x.word z)) (sym f.ty) (knows_declares f.knows x.word f.t) }
   sound (assigns {x} {y}) ctx env w k v s (join n (join h (one m))) =
       let p = ty_known env x.word k (visible_there env x.word x.span n) in
-      let f = expr_typed ctx.tables.names env Consumes y w k v h in
+      let f = expr_typed ctx.tables.names env Consumes y k h in
       let is : p.0 ≡ f.t = same_is p.0 f.t (rw (p.1, f.ty) at m) in
       record { typed = t.assigns p.0 p.1 (subst (λ z. IsTyped ctx.tables.names env y Consumes z (consumed ctx env y)) (sym is) f.typed); knows = knows_regains (knows_consumes k (judged ctx.tables.names y).name) x.word }
   sound (stores {v = z} {x} {y}) ctx env w k v s (join n (join h (join (one m) (one r)))) =
       let p = field_there (λ t. if_known (same t) (expr_type ctx.tables.names env y)) (field_type ctx x.word) m in
-      let f = expr_typed ctx.tables.names env Consumes y w k v h in
+      let f = expr_typed ctx.tables.names env Consumes y k h in
       let is : p.0 ≡ f.t = same_is p.0 f.t (subst (λ o. if_known (same p.0) o ≡ true) f.ty p.2) in
       record { typed = t.stores p.0 (visible_there env this_word z n) p.1 (subst (λ z. IsTyped ctx.tables.names env y Consumes z (consumed ctx env y)) (sym is) f.typed) (flip _ r); knows = knows_consumes k (judged ctx.tables.names y).name }
   sound (calls {to} {m} {xs}) ctx env w k v s (join h (join (one o) (join (one i) (one a)))) =
-      let f = call_sound ctx env w k to m xs v h o i in
+      let f = call_sound ctx env k to m xs h o i in
       record { typed = t.calls f.t f.typed (flip _ a); knows = f.knows }
   sound (sends {to} {m} {xs}) ctx env w k v s (join h (join (one o) (one i))) =
-      let f = send_sound ctx env w k to m xs v h o i in
+      let f = send_sound ctx env k to m xs h o i in
       record { typed = t.sends f.t f.typed; knows = f.knows }
   sound (tests {x} {a} {b} d e) ctx env w k (join v (join va vb)) s (join i (join h g)) =
       let f = sound_all d ctx env w k va h in
       let q = sound_all e ctx env w k vb g in
-      record { typed = t.tests _ _ (cond_sound ctx env x rule.SIf w k v i) f.typed q.typed; knows = knows_merged (knows_take f.knows (length env)) _ }
+      record { typed = t.tests _ _ (cond_sound ctx env x rule.SIf k i) f.typed q.typed; knows = knows_merged (knows_take f.knows (length env)) _ }
   sound (tests_once {x} {a} d) ctx env w k (join v (join va n)) s (join i (join h g)) =
       let f = sound_all d ctx env w k va h in
-      record { typed = t.tests_once _ (cond_sound ctx env x rule.SIf w k v i) f.typed; knows = knows_merged (knows_take f.knows (length env)) _ }
+      record { typed = t.tests_once _ (cond_sound ctx env x rule.SIf k i) f.typed; knows = knows_merged (knows_take f.knows (length env)) _ }
   sound (loops {x} {a} d) ctx env w k (join v va) s (join i (join h (one m))) =
       let f = sound_all d ctx env w k va h in
-      record { typed = t.loops _ (cond_sound ctx env x rule.SLoop w k v i) f.typed m; knows = k }
+      record { typed = t.loops _ (cond_sound ctx env x rule.SLoop k i) f.typed m; knows = k }
   sound (groups {x} {a} d) ctx env w k (join v va) s (join h (join i (one m))) =
-      let p = operand_typed ctx.tables.names env x w k v h in
+      let p = operand_typed ctx.tables.names env x k h in
       let f = sound_all d (within ctx) env w k va i in
       let b = both_true (is_target p.t) (not ctx.inside) (subst (λ z. (if_known is_target z && not ctx.inside) ≡ true) p.ty m) in
       record { typed = t.groups p.t _ p.typed f.typed b.0 (flip _ b.1); knows = knows_take f.knows (length env) }
@@ -157,10 +157,10 @@ mutual
         knows = subst (λ o. Knows (declares (lends env x.word) z.word o)) (sym new) (knows_declares (knows_lends k x.word) z.word c.0);
       }
   sound (returns {x}) ctx env w k v s (join h (join (one a) (one m))) =
-      let f = expr_typed ctx.tables.names env Consumes x w k v h in
+      let f = expr_typed ctx.tables.names env Consumes x k h in
       let is : ctx.result ≡ f.t = same_is ctx.result f.t (rw f.ty at m) in
       record { typed = t.returns (flip _ a) (subst (λ z. IsTyped ctx.tables.names env x Consumes z (consumed ctx env x)) (sym is) f.typed); knows = knows_consumes k (judged ctx.tables.names x).name }
-  sound (writes {xs}) ctx env w k v s (join h (one m)) = record { typed = t.prints (prints_sound ctx env xs w k v h m); knows = k }
+  sound (writes {xs}) ctx env w k v s (join h (one m)) = record { typed = t.prints (prints_sound ctx env xs k h m); knows = k }
   sound suspends ctx env w k v s (one a) = record { typed = t.suspends (flip _ a); knows = k }
 
   -- statements one after another

@@ -17,9 +17,12 @@ use Rattle.enc_types.specs.declared.names.Meaning.{Meaning}
 use Rattle.enc_types.specs.declared.names.Meaning.TheVariants as is
 use Rattle.enc_types.specs.Words.{every, all_there, add_one}
 use Rattle.enc_types.specs.Names.{Names, found, trait_named}
-use Rattle.enc_types.specs.Written.{Written, written, write_form, write_node, made, where_it, named_type, only_group, type_named, type_of_groups, alone_layer, is_type, is_composed, are_traits, are_types, many_names, group_premises, several, cap_written, local_of}
-use Rattle.enc_exprs.proofs.WrittenTypes.{AreKnown}
+use Rattle.enc_types.specs.Written.{type_of, type_premises, Written, written, write_form, write_node, made, where_it, named_type, only_group, type_named, type_of_groups, alone_layer, is_type, is_composed, are_traits, are_types, many_names, group_premises, several, cap_written, local_of}
 use Rattle.enc_rules.proofs.SourcesSound.{both_true}
+
+-- a written type that may be written is known
+abbrev pub AreKnown : Names → Type 0
+AreKnown names = (t : TypeText) → AllHold (type_premises names t) → is_some (type_of names t) ≡ true
 
 -- the groups of each class are known
 abbrev pub ClassesKnown : Names → Type 0
