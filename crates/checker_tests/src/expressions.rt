@@ -1,7 +1,6 @@
 // The rules of expressions: what is refused, by which rule and where, and what has which type.
-ghost use Rattle.std.specs.Prelude.{◌≡◌, true, IfOk};
-ghost use Rattle.enc_types.specs.Names.{Names as Table};
-ghost use Rattle.enc_exprs.specs.Known.{Knows, knows_types};
+ghost use Rattle.std.specs.Prelude.{IfOk};
+ghost use Rattle.enc_exprs.specs.Known.{Knows};
 
 use crate::marked::{count, joined, unmarked};
 use enc_ast::{Decl, Expr, ExprForm, Fail as Refusal, Program, Reject, Span, StmtForm, Word};
@@ -250,10 +249,7 @@ fn only_k(alloc: Global) -> Result<Env, AllocError>
 }
 
 /// The variable of a name, at these bytes of a text.
-#[tactic(auto, unfolding(enc_exprs::specs::Known::knows_types))]
-fn variable_at(alloc: Global, name: &str, start: u32, end: u32) -> Result<Expr, AllocError>
-    ensures { IfOk result (λ x. (names : Table) → knows_types names x ≡ true) }
-{
+fn variable_at(alloc: Global, name: &str, start: u32, end: u32) -> Result<Expr, AllocError> {
     Ok(Expr {
         form: ExprForm::Name(Word::copy_of(alloc, name)?),
         span: Span { start, end },
@@ -269,7 +265,7 @@ fn pair_of(answer: Result<Ty, Refusal>) -> Option<(&'static str, u32, u32)> {
 }
 
 #[test]
-fn variables_are_typed_by_tables(rt: HostRuntime) -> Result<(), Fail> {
+fn expressions_are_typed_by_tables(rt: HostRuntime) -> Result<(), Fail> {
     let alloc = rt.alloc();
     let tables = Setting::of(alloc, "1")?.tables;
     let env = only_k(alloc)?;
@@ -281,5 +277,13 @@ fn variables_are_typed_by_tables(rt: HostRuntime) -> Result<(), Fail> {
     assert_eq!(rt; found, Some(("E-VAR", 4, 5)));
     let found = pair_of(typed(alloc, tables.names(), &env, &unseen));
     assert_eq!(rt; found, Some(("E-VAR", 4, 5)));
+    let text = joined(alloc, HEAD, "null[Nope]", TAIL)?;
+    let unnamed = parse(alloc, text.as_bytes())?;
+    let Some(expr) = printed(&unnamed) else {
+        panic!(rt; "an expression")
+    };
+    let start = count(HEAD);
+    let found = pair_of(type_of(alloc, &tables, &env, expr));
+    assert_eq!(rt; found, Some(("E-TYPE", start, start.saturating_add(10))));
     Ok(())
 }
