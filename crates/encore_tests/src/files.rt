@@ -24,11 +24,13 @@ fn two_files(alloc: Global, fault: u64) -> Result<MemFiles, AllocError>
     Ok(MemFiles::new(files, failing))
 }
 
-/// Asserts that these bytes are read where a file may have so many.
+/// Asserts that these bytes are read where a file may have so many. The file is begun by the first call,
+/// and at most `limit + 2` reads follow: the call behind these would fail.
 fn check_whole(rt: &impl Abort, alloc: Global, limit: usize, bytes: &str) -> Result<(), ReadFail>
     requires { limit ≤ 100 }
 {
-    let mut files = two_files(alloc, 0)?;
+    let beyond = (limit as u64).saturating_add(4);
+    let mut files = two_files(alloc, beyond)?;
     let read = read_all(alloc, &mut files, "a", limit)?;
     assert_eq!(rt; read.as_slice(), bytes.as_bytes(), "at {limit}");
     assert_eq!(rt; files.faults(), 0);

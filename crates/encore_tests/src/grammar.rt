@@ -111,7 +111,17 @@ const WRONG_DECLARATIONS: &str = "1:1 trait T { }
 1:21 linear trait T { def
 1:29 linear trait T { def m(): un
 1:13 class C = (A) and B;
-1:18 class C = (A or B";
+1:18 class C = (A or B
+1:22 linear trait T { def : unit { } }
+1:23 linear trait T { def m: unit { } }
+1:26 linear trait T { def m() { } }
+1:27 linear trait T { def m(): { } }
+1:31 linear trait T { def m(): unit; }
+1:19 linear trait T { m(): unit { } }
+1:22 active class A { def def m(): unit { } }
+1:25 active class A { def m(k): unit { } }
+1:32 active class A { def m(k: int, ): unit { } }
+1:36 active class A { def m(): unit { } ; }";
 
 /// The line that tells this place.
 fn form_line(alloc: Global, place: &str) -> Result<String, AllocError> {
@@ -195,7 +205,33 @@ const WRONG_STATEMENTS: &str = "2:5 let = 1;
 2:13 print nil[(A)];
 2:13 print nil[A or B];
 2:16 print nil[A and];
-2:8 print a.b and c;";
+2:8 print a.b and c;
+2:12 print a or ;
+2:12 print a or or b;
+2:7 print or a;
+2:16 x = a or (b or );
+2:9 if a or { }
+2:13 print a and ;
+2:13 print a and or b;
+2:7 print and a;
+2:20 let x = a and b and;
+2:12 print 1 == ;
+2:12 print 1 <= >= 2;
+2:11 print 1 < = 2;
+2:9 print 1 = 2;
+2:7 print == 1;
+2:11 print 1 + ;
+2:11 print 1 - * 2;
+2:11 print 1 + + 2;
+2:13 print 1 - - - 2;
+2:7 print + 1;
+2:11 print 1 * ;
+2:11 print 1 / % 2;
+2:13 return [1 % ];
+2:7 print * 1;
+2:9 print - not a;
+2:11 print not - a;
+2:10 print not;";
 
 #[test]
 fn wrong_statements_have_places(rt: HostRuntime) -> Result<(), Fail> {
@@ -362,6 +398,81 @@ fn limits_of_declarations(rt: HostRuntime) -> Result<(), Fail> {
     Ok(())
 }
 
+/// Texts that go deep, each as what stands before, what is opened again and again, what stands inside,
+/// what closes and what stands behind; how often it may be opened; and the column at which once more
+/// passes the limit.
+const DEEP: &[([&str; 5], usize, u32)] = &[
+    (["fun f(): unit { print ", "-(", "1", ")", "; }"], 255, 534),
+    (["fun f(): unit { print ", "1+(", "1", ")", "; }"], 255, 790),
+    (
+        ["fun f(): unit { print ", "at(x, ", "1", ")", "; }"],
+        255,
+        1555,
+    ),
+    (
+        ["fun f(): unit { print ", "append(", "x", ", 1)", "; }"],
+        255,
+        1814,
+    ),
+    (["fun f(): unit { print ", "[", "1", "]", "; }"], 255, 278),
+    (
+        ["fun f(): unit { x ! m(", "len(", "1", ")", "); }"],
+        254,
+        1042,
+    ),
+    (
+        ["fun f(): unit { x = nil[", "Bestowed[", "int", "]", "]; }"],
+        254,
+        2319,
+    ),
+    (
+        ["fun f(k: ", "List[", "A and B", "]", "): unit { }"],
+        255,
+        1289,
+    ),
+    (["fun f(): ", "Fut[", "int", "]", " { }"], 256, 1037),
+    (
+        ["active class A { n: ", "Par[", "int", "]", "; }"],
+        255,
+        1044,
+    ),
+    (["fun f(): unit { ", "while a { ", "", "} ", "}"], 255, 2575),
+    (
+        ["fun f(): unit { ", "if a { } else { ", "", "} ", "}"],
+        255,
+        4102,
+    ),
+    (
+        [
+            "fun f(): unit { ",
+            "pack x and y into z { } else { ",
+            "",
+            "} ",
+            "}",
+        ],
+        255,
+        7942,
+    ),
+    (
+        ["fun f(): unit { ", "atomic a { ", "", "} ", "}"],
+        255,
+        2831,
+    ),
+];
+
+#[test]
+fn texts_can_go_deep(rt: HostRuntime) -> Result<(), Fail> {
+    let alloc = rt.alloc();
+    for &(texts, times, column) in DEEP {
+        let [head, open, inside, close, tail] = texts;
+        let closing = repeated(alloc, inside, close, times, tail)?;
+        let line = format!(in alloc; "p.enc:1:{column}: P-LIMIT\n")?;
+        let parts = [head, open, closing.as_str()];
+        check_whole_limit(&rt, alloc, parts, times, line.as_str())?;
+    }
+    Ok(())
+}
+
 #[test]
 fn the_earlier_failure_counts(rt: HostRuntime) -> Result<(), Fail> {
     let alloc = rt.alloc();
@@ -396,22 +507,41 @@ fn the_earlier_failure_counts(rt: HostRuntime) -> Result<(), Fail> {
     Ok(())
 }
 
-/// One declaration with something of each kind in it.
-const CLASS: &str =
-    "active class Main { n: Fut[A and (B or C)]; def main(args: List[int], k: int): unit { let a = this.n; let b = x ! m(1, [2]); if not (a == 1) { } else { while true { } } atomic a { } split x into y: A, z: B; pack y and z into w { } else { } choose x as A into v; let c = chain f with g(1); let d = lift future f; print at(a, 0), null[A]; this.n = len(a); return -a; suspend; } }";
+/// Declarations, each on its line, with something of each kind in them.
+const WHOLE: &str =
+    "active class Main { n: Fut[A and (B or C)]; def main(args: List[int], k: int): unit { let a = this.n; let b = x ! m(1, [2]); if not (a == 1) { } else { while true { } } atomic a { } split x into y: A, z: B; pack y and z into w { } else { } choose x as A into v; let c = chain f with g(1); let d = lift future f; print at(a, 0), null[A]; this.n = len(a); return -a; suspend; } }
+active class D { def m(): unit { x.m(1, y); this.m(); x ! m(1, 2); this ! m(); x = 1 + 2 * 3; this.n = a or b and not c; let a = y.m(this, 2); let b = this.m(); let c = this ! m(); let d = new C; let e = take this.n; let f = get x; let g = await x; } }
+active class D { def m(): unit { let h = each [1, 2]; let i = join p; let j = prune p; let k = extract p; let l = bestow x; let n = lift 1; let o = lift future x; let q = both p, r; let s = otherwise p, r; let t = seq p with f(1, 2); let u = chain x with f(); atomic this { x ! m(); suspend; } } }
+active class D { def m(): unit { split x into y: A and (B or C), z: D and E; pack y and z into w { print 1; } else { print 2, \"t\"; } choose w as A into v; if a < b { let k = append(x, 1); } else { let k = isnull(x); } while (a) { x = empty[int]; x = nil[List[text]]; } return unit; } }
+fun f(k: int, b: (A or B) and C): Par[bool] { let x = k; return [x, -k]; }
+linear trait T { n: int; f: Bestowed[L]; def m(a: text): T { return this; } def n(): unit { } }
+local trait L { }
+read trait R { }
+subordinate trait S { }
+class C = (A or B or D) and E and F;";
 
 #[test]
 fn texts_can_end_anywhere(rt: HostRuntime) -> Result<(), Fail> {
-    let alloc = rt.alloc();
-    let tokens = lex(alloc, CLASS.as_bytes())?;
+    for text in WHOLE.lines() {
+        check_ends(&rt, rt.alloc(), text)?;
+    }
+    Ok(())
+}
+
+/// Asserts that a declaration is read, and that it ends too early behind each token but its last.
+fn check_ends(rt: &impl Abort, alloc: Global, text: &str) -> Result<(), Fail> {
+    check_read(rt, alloc, text);
+    let tokens = lex(alloc, text.as_bytes())?;
     for token in tokens.as_slice() {
         let end = token.span.end as usize;
-        if end == CLASS.len() {
+        if end == text.len() {
             break;
         }
+        let Some(front) = text.get(..end) else {
+            panic!(rt; "a front part")
+        };
         let line = format!(in alloc; "p.enc:1:{}: P-FORM\n", end.saturating_add(1))?;
-        let outside = run(alloc, run_of(&CLASS.as_bytes()[..end]))?;
-        outside.check(&rt, "a text that ends early", unrun(1, line.as_str()));
+        run(alloc, run_of(front.as_bytes()))?.check(rt, front, unrun(1, line.as_str()));
     }
     Ok(())
 }

@@ -275,6 +275,7 @@ fn refuses_bytes_that_are_no_characters(rt: HostRuntime) -> Result<(), Fail> {
     text.push(255)?;
     text.extend_from_slice(after.as_bytes())?;
     run(alloc, run_of(&text))?.check(&rt, "no characters", unrun(1, "p.enc:1:62: P-TOKEN\n"));
+    run(alloc, run_of(&[255]))?.check(&rt, "one byte", unrun(1, "p.enc:1:1: P-TOKEN\n"));
     Ok(())
 }
 

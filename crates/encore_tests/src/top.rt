@@ -47,11 +47,21 @@ fn padded(alloc: Global, size: usize) -> Result<Vec<u8>, AllocError> {
 #[test]
 fn reads_texts_up_to_a_size(rt: HostRuntime) -> Result<(), Fail> {
     let alloc = rt.alloc();
+    // The file is begun, and read at most two times more than it may have bytes.
+    let read_fault = 1_048_580;
     let longest = padded(alloc, 1_048_576)?;
-    run(alloc, run_of(&longest))?.check(&rt, "the longest text", ended("hi\n", 3));
+    let setting = Setting {
+        read_fault,
+        ..run_of(&longest)
+    };
+    run(alloc, setting)?.check(&rt, "the longest text", ended("hi\n", 3));
     let longer = padded(alloc, 1_048_577)?;
+    let setting = Setting {
+        read_fault,
+        ..run_of(&longer)
+    };
     let refused = unrun(1, "p.enc:1:1: L-SIZE\n");
-    run(alloc, run_of(&longer))?.check(&rt, "a text that is too long", refused);
+    run(alloc, setting)?.check(&rt, "a text that is too long", refused);
     Ok(())
 }
 
