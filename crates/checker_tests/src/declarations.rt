@@ -195,14 +195,20 @@ K-SIG «fun f(): int { return 1; }»
 K-SIG «fun f(k: int, k: int): int { return k; }»
 K-SIG linear trait A { } «fun f(a: A): int { return 1; }»
 K-SIG local trait A { } «fun f(k: int): A { }»
-K-SIG linear trait A { } fun f(k: int): int { let x = nil[«Fut[A]»]; return k; }";
+K-SIG linear trait A { } fun f(k: int): int { let x = nil[«Fut[A]»]; return k; }
+K-SIG linear trait A { x: «(A or S or A)»; } subordinate trait S { }
+K-SIG linear trait A { x: «(A or B) and S»; } linear trait B { } subordinate trait S { }";
 
 const GOOD_SIGNATURES: &str =
     "linear trait B { x: Bestowed[L]; y: Fut[int]; z: List[Fut[text]]; } local trait L { }
 linear trait B { x: Bestowed[C]; } local trait L { } class C = L;
 linear trait A { def m(a: int, b: int): unit { } def n(a: int, b: int): unit { } }
 read trait R { } fun f(k: R, d: D, xs: List[R]): Par[R] { } active class D { }
-linear trait A { x: (A or L) and B; } local trait L { } linear trait B { }";
+linear trait A { x: (A or L) and B; } local trait L { } linear trait B { }
+linear trait A { x: (A or S); def m(k: (S or A)): (A or S) { } } subordinate trait S { }
+linear trait A { } subordinate trait S { } fun f(k: int): int { let x = null[(A or S)]; return k; }
+linear trait A { } subordinate trait S { } active class D { x: (S or A); }
+subordinate trait S { x: (R or S); } read trait R { }";
 
 #[test]
 fn written_types_may_be_written(rt: HostRuntime) -> Result<(), Fail> {
@@ -222,6 +228,14 @@ K-TRAIT linear trait A { x: int; «x: int;» } linear trait A { }
 K-NAME read trait R { } «class R = R and R;»
 K-NAME subordinate trait S { } class C = «(S or Nope)»;
 K-OR subordinate trait S { } class C = «(S or S)»;
+K-SIG class C = (A or B); linear trait A { x: «Fut[A]»; } linear trait B { x: int; }
+K-SIG class C = (A or B); linear trait A { x: int; } linear trait B { x: «List[B]»; }
+K-SIG class C = (A or B); linear trait A { x: «A and A»; } linear trait B { x: A; }
+K-SIG class C = (A or B); linear trait A { x: «Bestowed[A]»; } linear trait B { x: Par[A]; }
+K-NAME class C = (A or B); linear trait A { x: «Nope»; } linear trait B { x: int; }
+K-NAME class C = (A or B); linear trait A { x: Z; } linear trait B { x: int; } class Z = «Nope»;
+K-NAME read trait R { x: Z; } class Z = «Nope»;
+K-OR class C = «(A or B)»; linear trait A { x: Fut[A]; y: int; } linear trait B { y: bool; }
 K-TRAIT linear trait A { def m(): unit { } «def m(k: int, k: int): unit { }» }";
 
 #[test]

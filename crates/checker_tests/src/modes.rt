@@ -123,6 +123,12 @@ fn types_are_split_and_packed(rt: HostRuntime) -> Result<(), Fail> {
     };
     assert!(rt; Ty::Cap(packed).is(&Ty::Cap(whole)));
     assert!(rt; pack_of(alloc, &left, &cap(alloc, "34")?)?.is_none());
+    assert!(rt; pack_of(alloc, &right, &one(alloc, Mode::Linear)?)?.is_some());
+    for mode in [Mode::Local, Mode::Read, Mode::Subordinate] {
+        let other = one(alloc, mode)?;
+        assert!(rt; pack_of(alloc, &right, &other)?.is_none());
+        assert!(rt; pack_of(alloc, &other, &right)?.is_none());
+    }
     Ok(())
 }
 

@@ -14,13 +14,13 @@ const HEAD: &str =
 linear trait B { def up(): unit { } def down(): unit { } }
 local trait L { m: int; def set(k: int): unit { this.m = k; } }
 read trait R { v: int; def view(): int { let v = this.v; return v; } }
-subordinate trait S { }
-linear trait Own { c: S; def keep(x: S): unit { this.c = x; } def grow(): unit { let x = new Node; this.keep(x); } }
+subordinate trait S { def link(x: S): S { return x; } }
+linear trait Own { c: S; def keep(x: S): unit { this.c = x; } def core(): S { let x = this.c; return x; } def grow(): unit { let x = new Node; this.keep(x); let y = this.core(); } }
 class C = A; class P = A and B; class E = (A or R); class Q = L; class Node = S; class Owner = Own;
-active class D { a: A; def put(c: A): unit { } def ask(): int { return 1; } def bad(x: L): unit { } def out(): A { let x = take this.a; return x; } }
+active class D { a: A; def put(c: A): unit { } def ask(): int { return 1; } def bad(x: L): unit { } def out(): A { let x = take this.a; return x; } def own(x: S): unit { } def core(): S { return null[S]; } }
 fun twice(k: int): int { return k * 2; }
 fun sum(k: int, j: int): int { return k + j; }
-active class Main { n: int; a: A; def other(): unit { } def main(args: List[int]): unit { ";
+active class Main { n: int; a: A; def other(): unit { } def own(x: S): S { return x; } def main(args: List[int]): unit { ";
 
 /// What stands behind the statements of `main`.
 const TAIL: &str = " } }";
@@ -135,12 +135,18 @@ S-CALL «args.up();»
 S-CALL let q = new Q; let b = bestow q; «b.set(true);»
 S-INNER let o = new Owner; let x = new Node; «o.keep(x);»
 S-INNER let o = new Owner; «o.keep(null[S]);»
+S-INNER let o = new Owner; «let x = o.core();»
 S-SEND let x = new C; «x ! up();»
 S-SEND let d = new D; «d ! nope();»
 S-SEND let d = new D; «d ! ask(1);»
 S-SEND let q = new Q; «q ! set(1);»
 S-SENDABLE let d = new D; «d ! bad(null[L]);»
 S-SENDABLE let d = new D; «d ! out();»
+S-SENDABLE let d = new D; «d ! own(null[S]);»
+S-SENDABLE let d = new D; «let f = d ! core();»
+S-SENDABLE «this ! own(null[S]);»
+S-CALL let d = new D; «d.own(null[S]);»
+S-CALL let o = new Owner; let x = new Node; «o.keep(x, x);»
 E-TYPE let x = new C; x.add(1, «2»);
 E-TYPE let x = new C; let k = x.add(«true», true);
 E-TYPE let d = new D; d ! put(«1»);
@@ -151,6 +157,8 @@ let x = new C; let k = x.add(1, true); print k + 1;
 let x = new C; let y = new C; x.give(y); x.up();
 this.other(); let u = this.other();
 let o = new Owner; o.grow();
+let x = new Node; let y = new Node; x.link(y); let z = x.link(x);
+let x = new Node; this.own(x); let y = this.own(x);
 let d = new D; let f = d ! ask(); d ! put(null[A]);
 let q = new Q; q.set(1); let b = bestow q; b ! set(1);";
 
@@ -208,6 +216,18 @@ S-ATOMIC let d = new D; atomic d { while true { «this.other();» } }
 S-ATOMIC let d = new D; atomic d { «let u = this.other();» }
 S-ATOMIC let d = new D; atomic d { «atomic d { }» }
 S-LET let d = new D; let f = d ! ask(); atomic d { «let f = get f;» }
+S-GET let d = new D; atomic d { «let k = get 1;» }
+S-AWAIT let d = new D; atomic d { «let k = await 1;» }
+S-PART let d = new D; atomic d { «let xs = extract 1;» }
+S-CALL let d = new D; atomic d { «d.ask();» }
+S-CALL let d = new D; atomic d { «let k = d.ask();» }
+S-INNER let d = new D; let o = new Owner; let x = new Node; atomic d { «o.keep(x);» }
+S-INNER let d = new D; let o = new Owner; atomic d { if true { «let x = o.core();» } }
+S-ATOMIC let d = new D; let x = new Node; atomic d { «x.link(x);» }
+S-SENDABLE let d = new D; atomic d { «d ! own(null[S]);» }
+S-ATOMIC let d = new D; atomic d { atomic d { «suspend;» } }
+S-ATOMIC «atomic args { }»
+E-COPY let c = new C; atomic «c» { }
 S-ATOMIC «atomic 1 { }»
 E-VAR atomic 1 { print «z»; }";
 
@@ -228,10 +248,16 @@ S-SPLIT let k = 1; «split k into y: A, z: B;»
 S-SPLIT let x = new P; «split x into y: A and B, z: A;»
 S-PACK let x = new C; let y = new C; «pack x and y into z { } else { }»
 S-PACK let x = new C; let k = 1; «pack x and k into z { } else { }»
+S-PACK let x = new C; let y = new E; «pack x and y into z { } else { }»
+S-PACK let x = new C; let q = new Q; «pack x and q into z { } else { }»
+S-PACK let x = new C; let q = new Node; «pack q and x into z { } else { }»
 S-PACK let k = 1; let x = new C; «pack k and x into z { let b = isnull(z); let j = z + 1; } else { }»
 S-LET let x = new P; split x into y: A, z: B; «pack y and z into x { x.down(); } else { }»
 S-CHOOSE let x = new C; «choose x as A into y;»
 S-CHOOSE let x = new E; «choose x as B into y;»
+S-CHOOSE let x = new E; «choose x as Nope into y;»
+S-CHOOSE let x = new E; «choose x as C into y;»
+S-CHOOSE let x = new E; «choose x as twice into y;»
 S-CHOOSE let x = new P; «choose x as A into y;»
 E-MOVED let x = new C; pack x and «x» into z { } else { }
 E-MOVED let x = new P; split x into y: A, z: B; «x».down();
@@ -264,6 +290,13 @@ E-MOVED let d = new D; let c = new C; d ! put(c); «c».up();
 E-MOVED let d = new D; let c = new C; if true { d ! put(c); } else { } «c».up();
 E-MOVED let d = new D; let c = new C; if true { } else { d ! put(c); } «c».up();
 E-MOVED let d = new D; let c = new C; if true { d ! put(c); } print isnull(«c»);
+E-MOVED let c = new C; let d = new D; if true { d ! put(c); return unit; } «c».up();
+E-MOVED let c = new C; let d = new D; if true { } else { d ! put(c); return unit; } «c».up();
+E-MOVED let c = new C; let d = new D; if true { let b = c; return unit; } else { return unit; } «c».up();
+E-MOVED let c = new C; let d = new D; d ! put(c); return unit; «c».up();
+E-MOVED let x = new P; split x into y: A, z: B; pack y and z into w { return unit; } else { } «y».up();
+E-MOVED let x = new P; split x into y: A, z: B; let c = new C; pack y and z into w { } else { let b = c; return unit; } «c».up();
+S-LOOP let c = new C; let d = new D; «while true { d ! put(c); return unit; }»
 E-MOVED let c = new C; c.give(«c»);
 E-MOVED let x = new C; x ! put(«x»);
 E-MOVED let c = new C; let x = c; let y = «c»;
