@@ -467,8 +467,11 @@ fn texts_can_go_deep(rt: HostRuntime) -> Result<(), Fail> {
         let [head, open, inside, close, tail] = texts;
         let closing = repeated(alloc, inside, close, times, tail)?;
         let line = format!(in alloc; "p.enc:1:{column}: P-LIMIT\n")?;
-        let parts = [head, open, closing.as_str()];
-        check_whole_limit(&rt, alloc, parts, times, line.as_str())?;
+        let most = repeated(alloc, head, open, times, closing.as_str())?;
+        check_read(&rt, alloc, most.as_str());
+        let more = repeated(alloc, head, open, times.saturating_add(1), closing.as_str())?;
+        let outside = run(alloc, run_of(more.as_bytes()))?;
+        outside.check(&rt, open, unrun(1, line.as_str()));
     }
     Ok(())
 }
