@@ -265,7 +265,7 @@ fn pair_of(answer: Result<Ty, Refusal>) -> Option<(&'static str, u32, u32)> {
 }
 
 #[test]
-fn expressions_are_typed_by_tables(rt: HostRuntime) -> Result<(), Fail> {
+fn variables_are_typed_by_tables(rt: HostRuntime) -> Result<(), Fail> {
     let alloc = rt.alloc();
     let tables = Setting::of(alloc, "1")?.tables;
     let env = only_k(alloc)?;
@@ -277,13 +277,21 @@ fn expressions_are_typed_by_tables(rt: HostRuntime) -> Result<(), Fail> {
     assert_eq!(rt; found, Some(("E-VAR", 4, 5)));
     let found = pair_of(typed(alloc, tables.names(), &env, &unseen));
     assert_eq!(rt; found, Some(("E-VAR", 4, 5)));
+    Ok(())
+}
+
+#[test]
+fn a_type_that_is_none_is_refused(rt: HostRuntime) -> Result<(), Fail> {
+    let alloc = rt.alloc();
+    let tables = Setting::of(alloc, "1")?.tables;
+    let env = only_k(alloc)?;
     let text = joined(alloc, HEAD, "null[Nope]", TAIL)?;
-    let unnamed = parse(alloc, text.as_bytes())?;
-    let Some(expr) = printed(&unnamed) else {
+    let program = parse(alloc, text.as_bytes())?;
+    let Some(expr) = printed(&program) else {
         panic!(rt; "an expression")
     };
-    let start = count(HEAD);
     let found = pair_of(type_of(alloc, &tables, &env, expr));
+    let start = count(HEAD);
     assert_eq!(rt; found, Some(("E-TYPE", start, start.saturating_add(10))));
     Ok(())
 }
