@@ -1,11 +1,9 @@
 // The rules of expressions: what is refused, by which rule and where, and what has which type.
-ghost use Rattle.std.specs.Prelude.{IfOk};
-ghost use Rattle.enc_exprs.specs.Known.{Knows};
 
 use crate::marked::{count, joined, unmarked};
 use enc_ast::{Decl, Expr, ExprForm, Fail as Refusal, Program, Reject, Span, StmtForm, Word};
-use enc_exprs::{Use, expr_type, typed, types_stay_known};
-use enc_flow::Env;
+use enc_exprs::{Use, expr_type, typed};
+use enc_flow::{Env, Scope};
 use enc_modes::Ty;
 use enc_names::{Tables, tables};
 use enc_parse::parse;
@@ -54,11 +52,11 @@ impl Setting {
     }
 
     /// What the rules say of the expression, which is copied.
-    fn judge(&self, rt: &impl Abort, alloc: Global) -> Result<Option<Ty>, Refusal> {
+    fn judge(&self, rt: &impl Abort, alloc: Global) -> Result<Ty, Refusal> {
         let Some(expr) = printed(&self.program) else {
             panic!(rt; "an expression")
         };
-        expr_type(alloc, self.tables.names(), &self.env, expr, Use::Copies)
+        type_of(alloc, &self.tables, &self.env, expr)
     }
 }
 
@@ -228,7 +226,7 @@ fn expressions_have_types(rt: HostRuntime) -> Result<(), Fail> {
             panic!(rt; "a variable and an expression")
         };
         let setting = Setting::of(alloc, expr)?;
-        let Ok(Some(found)) = setting.judge(&rt, alloc) else {
+        let Ok(found) = setting.judge(&rt, alloc) else {
             panic!(rt; "a type of {expr}")
         };
         let due = field_type(&setting.tables, like);
@@ -238,10 +236,7 @@ fn expressions_have_types(rt: HostRuntime) -> Result<(), Fail> {
 }
 
 /// One variable, the integer `k`.
-fn only_k(alloc: Global) -> Result<Env, AllocError>
-    ensures { IfOk result (λ env. Knows env) }
-{
-    types_stay_known();
+fn only_k(alloc: Global) -> Result<Env, AllocError> {
     let mut env = Env::new(alloc);
     let word = Word::copy_of(alloc, "k")?;
     env.declare(word, Ty::Int)?;
@@ -277,6 +272,20 @@ fn variables_are_typed_by_tables(rt: HostRuntime) -> Result<(), Fail> {
     assert_eq!(rt; found, Some(("E-VAR", 4, 5)));
     let found = pair_of(typed(alloc, tables.names(), &env, &unseen));
     assert_eq!(rt; found, Some(("E-VAR", 4, 5)));
+    Ok(())
+}
+
+#[test]
+fn no_rule_fails_because_of_an_unknown_type(rt: HostRuntime) -> Result<(), Fail> {
+    let alloc = rt.alloc();
+    let tables = Setting::of(alloc, "1")?.tables;
+    let mut scope = Scope::new(alloc);
+    scope.declare_unknown(Word::copy_of(alloc, "z")?)?;
+    let seen = variable_at(alloc, "z", 0, 1)?;
+    for place in [Use::Copies, Use::Consumes, Use::Looks] {
+        let found = expr_type(alloc, tables.names(), &scope, &seen, place);
+        assert!(rt; matches!(found, Ok(None)));
+    }
     Ok(())
 }
 

@@ -1,7 +1,7 @@
 // Variables, and which of them were moved.
 
 use enc_ast::{Row, Word};
-use enc_flow::Env;
+use enc_flow::{Env, Scope};
 use enc_modes::{Alt, Mode, Ty};
 use std::alloc::{AllocError, Global};
 use std::process::Abort;
@@ -60,18 +60,7 @@ fn variables_have_types(rt: HostRuntime) -> Result<(), Fail> {
     let Some(variable) = env.find("k") else {
         panic!(rt; "a variable")
     };
-    assert!(rt; matches!(env.known(variable), Some(Ty::Int)));
-    Ok(())
-}
-
-#[test]
-fn types_are_known_of_declared_variables(rt: HostRuntime) -> Result<(), Fail> {
-    let alloc = rt.alloc();
-    let mut env = Env::new(alloc);
-    assert!(rt; env.is_empty());
-    let flag = env.declare(Word::copy_of(alloc, "b")?, Ty::Bool)?;
-    assert!(rt; !env.is_empty());
-    assert!(rt; matches!(env.ty(flag), Ty::Bool));
+    assert!(rt; matches!(env.ty(variable), Ty::Int));
     Ok(())
 }
 
@@ -79,11 +68,27 @@ fn types_are_known_of_declared_variables(rt: HostRuntime) -> Result<(), Fail> {
 fn the_newest_of_a_name_is_found(rt: HostRuntime) -> Result<(), Fail> {
     let alloc = rt.alloc();
     let mut env = Env::new(alloc);
+    assert!(rt; env.is_empty());
     env.declare(Word::copy_of(alloc, "x")?, Ty::Int)?;
-    env.declare_unknown(Word::copy_of(alloc, "x")?)?;
+    let newest = env.declare(Word::copy_of(alloc, "x")?, Ty::Bool)?;
+    assert!(rt; !env.is_empty());
     assert_eq!(rt; env.find("x"), Some(1));
+    assert!(rt; matches!(env.ty(newest), Ty::Bool));
     env.cut(1);
     assert_eq!(rt; env.find("x"), Some(0));
+    Ok(())
+}
+
+#[test]
+fn a_scope_has_variables_without_types(rt: HostRuntime) -> Result<(), Fail> {
+    let alloc = rt.alloc();
+    let mut scope = Scope::new(alloc);
+    let known = scope.declare(Word::copy_of(alloc, "k")?, Ty::Int)?;
+    let unknown = scope.declare_unknown(Word::copy_of(alloc, "z")?)?;
+    assert!(rt; matches!(scope.known(known), Some(Ty::Int)));
+    assert!(rt; scope.known(unknown).is_none());
+    assert!(rt; scope.take(unknown));
+    assert!(rt; !scope.is_moved(unknown));
     Ok(())
 }
 

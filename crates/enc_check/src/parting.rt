@@ -12,7 +12,7 @@ ghost use Rattle.enc_rules.specs.Stmts as spec;
 use crate::variables::{are_free, declare, is_free};
 use enc_ast::{Fail, Name, Rule, Span, TypeText};
 use enc_exprs::{Use, lend, type_in, variable};
-use enc_flow::Env;
+use enc_flow::Scope;
 use enc_modes::{Alt, Ty, is_linear};
 use enc_premises::demand;
 use enc_sources::{Context, chosen, packed, splits};
@@ -22,7 +22,7 @@ use std::alloc::{AllocError, Global};
 #[tactic(auto, using(enc_premises::proofs::Passing::passing, crate::proofs::Memory::memory))]
 pub fn split(
     context: &Context<'_>,
-    env: &mut Env,
+    env: &mut Scope,
     whole: &Name,
     left: (&Name, &TypeText),
     right: (&Name, &TypeText),
@@ -61,7 +61,7 @@ fn split_fits(whole: Option<&Ty>, left: Option<&Ty>, right: Option<&Ty>) -> bool
 pub fn choose(
     alloc: Global,
     context: &Context<'_>,
-    env: &mut Env,
+    env: &mut Scope,
     whole: &Name,
     wanted: &Name,
     name: &Name,
@@ -100,7 +100,7 @@ fn choice(
 }
 
 /// Uses a variable up, as an expression in a consuming place does. It takes no memory.
-pub fn move_out(env: &mut Env, name: &Name) -> Result<(), Fail>
+pub fn move_out(env: &mut Scope, name: &Name) -> Result<(), Fail>
     ensures premises { Passes result (uses.variable env.old Consumes false name.now.word name.now.span) }
     ensures after { OnOk result (env.new ≡ uses.lends env.old name.now.word) }
 {
@@ -115,8 +115,8 @@ pub fn move_out(env: &mut Env, name: &Name) -> Result<(), Fail>
 #[tactic(auto, using(crate::proofs::Memory::memory))]
 pub fn pack(
     alloc: Global,
-    env: &Env,
-    start: &mut Env,
+    env: &Scope,
+    start: &mut Scope,
     names: (&Name, &Name, &Name),
 ) -> Result<bool, Fail>
     ensures memory { MemoryOnly result }

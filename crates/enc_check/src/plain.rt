@@ -15,7 +15,7 @@ ghost use Rattle.enc_rules.specs.Stmts as spec;
 use crate::variables::{declare, is_free, use_up};
 use enc_ast::{Expr, Fail, Name, Receiver, Row, Rule, SourceForm, Span};
 use enc_exprs::{Use, expr_type, is_bool, is_plain, regain, type_in, visible};
-use enc_flow::Env;
+use enc_flow::Scope;
 use enc_modes::Ty;
 use enc_premises::demand;
 use enc_sources::{Context, Demand, agree, call, send, source, waits};
@@ -26,7 +26,7 @@ use std::alloc::Global;
 pub fn bind(
     alloc: Global,
     context: &Context<'_>,
-    env: &mut Env,
+    env: &mut Scope,
     name: &Name,
     form: &SourceForm,
     span: Span,
@@ -76,7 +76,7 @@ fn outside(context: &Context<'_>) -> Demand
 pub fn assign(
     alloc: Global,
     context: &Context<'_>,
-    env: &mut Env,
+    env: &mut Scope,
     name: &Name,
     value: &Expr,
     span: Span,
@@ -98,7 +98,7 @@ pub fn assign(
 pub fn store(
     alloc: Global,
     context: &Context<'_>,
-    env: &mut Env,
+    env: &mut Scope,
     place: Span,
     name: &Name,
     value: &Expr,
@@ -131,7 +131,7 @@ fn fits_field(context: &Context<'_>, name: &Name, ty: Option<&Ty>) -> bool
 pub fn call_method(
     alloc: Global,
     context: &Context<'_>,
-    env: &mut Env,
+    env: &mut Scope,
     to: &Receiver,
     name: &Name,
     args: &Row<Expr>,
@@ -149,7 +149,7 @@ pub fn call_method(
 pub fn send_message(
     alloc: Global,
     context: &Context<'_>,
-    env: &mut Env,
+    env: &mut Scope,
     to: &Receiver,
     name: &Name,
     args: &Row<Expr>,
@@ -168,7 +168,7 @@ pub fn send_message(
 pub fn give_back(
     alloc: Global,
     context: &Context<'_>,
-    env: &mut Env,
+    env: &mut Scope,
     value: &Expr,
     span: Span,
 ) -> Result<(), Fail>
@@ -203,7 +203,7 @@ pub fn suspend(context: &Context<'_>, span: Span) -> Result<(), Fail>
 pub fn print(
     alloc: Global,
     context: &Context<'_>,
-    env: &Env,
+    env: &Scope,
     values: &[Expr],
     span: Span,
 ) -> Result<(), Fail>
@@ -214,7 +214,12 @@ pub fn print(
 }
 
 /// Whether each of the values is of a type that can be printed, as far as that is known.
-fn are_plain(alloc: Global, context: &Context<'_>, env: &Env, values: &[Expr]) -> Result<bool, Fail>
+fn are_plain(
+    alloc: Global,
+    context: &Context<'_>,
+    env: &Scope,
+    values: &[Expr],
+) -> Result<bool, Fail>
     ensures premises { Passes result (each (expr_premises context.now.tables.names env.now Copies) values.now) }
     ensures plain { IfOk result (λ plain. plain ≡ every (spec.prints context.now env.now) values.now) }
 {
@@ -229,7 +234,7 @@ fn are_plain(alloc: Global, context: &Context<'_>, env: &Env, values: &[Expr]) -
 fn prints_too(
     alloc: Global,
     context: &Context<'_>,
-    env: &Env,
+    env: &Scope,
     before: bool,
     value: &Expr,
 ) -> Result<bool, Fail>
@@ -247,7 +252,7 @@ fn prints_too(
 pub fn condition(
     alloc: Global,
     context: &Context<'_>,
-    env: &Env,
+    env: &Scope,
     rule: Rule,
     value: &Expr,
 ) -> Result<(), Fail>

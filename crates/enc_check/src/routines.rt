@@ -11,7 +11,7 @@ use crate::returning::last_returns;
 use crate::stmts::in_order;
 use crate::variables::{add, declare};
 use enc_ast::{Decl, Fail, Method, Param, Row, Rule, TypeText, Word};
-use enc_flow::Env;
+use enc_flow::Scope;
 use enc_modes::{Alt, Ty};
 use enc_names::Tables;
 use enc_premises::demand;
@@ -83,7 +83,12 @@ pub fn routine(
 
 /// The variables at the start of a body: `this`, unless it is one of a function, and the parameters.
 #[tactic(auto, using(crate::proofs::Memory::memory))]
-fn start(alloc: Global, tables: &Tables, owner: Option<u32>, params: &[Param]) -> Result<Env, Fail>
+fn start(
+    alloc: Global,
+    tables: &Tables,
+    owner: Option<u32>,
+    params: &[Param],
+) -> Result<Scope, Fail>
     ensures memory { MemoryOnly result }
     ensures start { IfOk result (λ env. env ≡ spec.start tables.now.names owner params.now) }
 {
@@ -93,11 +98,11 @@ fn start(alloc: Global, tables: &Tables, owner: Option<u32>, params: &[Param]) -
 }
 
 #[tactic(auto, using(crate::proofs::Memory::memory))]
-fn mine(alloc: Global, names: &Names, owner: Option<u32>) -> Result<Env, Fail>
+fn mine(alloc: Global, names: &Names, owner: Option<u32>) -> Result<Scope, Fail>
     ensures memory { MemoryOnly result }
     ensures this { IfOk result (λ env. env ≡ spec.this_var names.now owner) }
 {
-    let mut env = Env::new(alloc);
+    let mut env = Scope::new(alloc);
     if let Some(owner) = owner {
         let ty = this_type(alloc, names, owner)?;
         add(&mut env, Word::copy_of(alloc, "this")?, ty)?;
@@ -106,7 +111,7 @@ fn mine(alloc: Global, names: &Names, owner: Option<u32>) -> Result<Env, Fail>
 }
 
 #[tactic(auto, using(crate::proofs::Memory::memory))]
-fn parameters(tables: &Tables, env: &mut Env, params: &[Param]) -> Result<(), Fail>
+fn parameters(tables: &Tables, env: &mut Scope, params: &[Param]) -> Result<(), Fail>
     ensures memory { MemoryOnly result }
     ensures after { OnOk result (env.new ≡ env.old ++ map (spec.param_var tables.now.names) params.now) }
 {

@@ -13,7 +13,7 @@ use crate::plain::{
 use crate::variables::is_free;
 use enc_ast::{Expr, Fail, Items, Name, Rule, Span, Stmt, StmtForm};
 use enc_exprs::{Use, expr_type};
-use enc_flow::Env;
+use enc_flow::Scope;
 use enc_modes::Ty;
 use enc_premises::demand;
 use enc_sources::{Context, is_target};
@@ -24,7 +24,12 @@ use std::alloc::Global;
 /// What it leaves of the variables then is of no use.
 #[cycle(stmts)]
 #[tactic(auto, using(crate::proofs::Meaning::stmts))]
-pub fn stmt(alloc: Global, context: &Context<'_>, env: &mut Env, judged: &Stmt) -> Result<(), Fail>
+pub fn stmt(
+    alloc: Global,
+    context: &Context<'_>,
+    env: &mut Scope,
+    judged: &Stmt,
+) -> Result<(), Fail>
     ensures premises { Passes result ((spec.act judged.now).premises context.now env.old) }
     ensures after { OnOk result (env.new ≡ (spec.act judged.now).after context.now env.old) }
 {
@@ -59,7 +64,7 @@ pub fn stmt(alloc: Global, context: &Context<'_>, env: &mut Env, judged: &Stmt) 
 pub fn in_order(
     alloc: Global,
     context: &Context<'_>,
-    env: &mut Env,
+    env: &mut Scope,
     stmts: &[Stmt],
 ) -> Result<(), Fail>
     ensures premises { Passes result (spec.all_premises context.now env.old (spec.acts stmts.now)) }
@@ -76,7 +81,7 @@ pub fn in_order(
 fn block(
     alloc: Global,
     context: &Context<'_>,
-    env: &mut Env,
+    env: &mut Scope,
     count: usize,
     stmts: &[Stmt],
 ) -> Result<(), Fail>
@@ -94,7 +99,7 @@ fn block(
 fn other_block(
     alloc: Global,
     context: &Context<'_>,
-    env: &mut Env,
+    env: &mut Scope,
     stmts: Option<&Items<Stmt>>,
 ) -> Result<(), Fail>
     ensures premises { Passes result (spec.else_premises context.now env.old (option_map spec.acts (option_copied stmts.entry))) }
@@ -112,7 +117,7 @@ fn other_block(
 fn branch(
     alloc: Global,
     context: &Context<'_>,
-    env: &mut Env,
+    env: &mut Scope,
     value: &Expr,
     then: &[Stmt],
     other: Option<&Items<Stmt>>,
@@ -134,7 +139,7 @@ fn branch(
 fn repeat(
     alloc: Global,
     context: &Context<'_>,
-    env: &Env,
+    env: &Scope,
     value: &Expr,
     body: &[Stmt],
     span: Span,
@@ -153,7 +158,7 @@ fn repeat(
 fn together(
     alloc: Global,
     context: &Context<'_>,
-    env: &mut Env,
+    env: &mut Scope,
     owner: &Expr,
     body: &[Stmt],
     span: Span,
@@ -183,7 +188,7 @@ fn may_own(ty: Option<&Ty>) -> bool
 fn both(
     alloc: Global,
     context: &Context<'_>,
-    env: &mut Env,
+    env: &mut Scope,
     names: (&Name, &Name, &Name),
     one: &Items<Stmt>,
     two: &Items<Stmt>,

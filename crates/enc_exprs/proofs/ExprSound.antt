@@ -20,7 +20,7 @@ use Rattle.enc_exprs.specs.Types.{is_int, is_bool, is_plain, can_be_null, is_lis
 use Rattle.enc_exprs.specs.Exprs.{Judged, judged, judge_form, copied, binary, binary_type, after}
 use Rattle.enc_exprs.specs.Typing.{Layer, layer, TypeOf, Copied, AllCopied}
 use Rattle.enc_exprs.specs.Typing as t
-use Rattle.enc_exprs.specs.Known.{Knows}
+use Rattle.enc_flow.specs.Known.{Knows}
 use Rattle.enc_exprs.proofs.Meaning.{seen, judged_layer}
 use Rattle.enc_exprs.proofs.Variables.{Named, variable_known, kept}
 use Rattle.enc_exprs.proofs.Sorts.{int_is, bool_is, list_is}

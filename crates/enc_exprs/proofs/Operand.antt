@@ -10,7 +10,7 @@ use Rattle.enc_types.specs.Names.{Names}
 use Rattle.enc_exprs.specs.declared.uses.Use.TheVariants.{Copies}
 use Rattle.enc_exprs.specs.Exprs.{expr_type, expr_premises}
 use Rattle.enc_exprs.specs.Typing.{IsTyped}
-use Rattle.enc_exprs.specs.Known.{Knows}
+use Rattle.enc_flow.specs.Known.{Knows}
 use Rattle.enc_exprs.proofs.ExprFine.{expr_fine}
 use Rattle.enc_exprs.proofs.ExprSound.{expr_sound}
 

@@ -5,14 +5,14 @@ use Rattle.enc_ast.specs.declared.rules.Span.{Span}
 use Rattle.enc_modes.specs.declared.ty.Ty.{Ty}
 use Rattle.enc_modes.specs.Modes.{is_linear}
 use Rattle.enc_premises.specs.First.{AllHold, one, join}
-use Rattle.enc_flow.specs.declared.env.Var.{Var}
+use Rattle.enc_flow.specs.declared.scope.Var.{Var}
 use Rattle.enc_flow.specs.Env.{Env, number_of, at_number, find, ty_of, moved_of, usable, usable_of, linear, marked_at}
 use Rattle.enc_exprs.specs.declared.uses.Use.{Use}
 use Rattle.enc_exprs.specs.declared.uses.Use.TheVariants.{Copies, Consumes, Looks}
 use Rattle.enc_exprs.specs.Uses.{lets_linear, variable, lends, taken_at}
 use Rattle.enc_exprs.specs.Exprs.{after}
-use Rattle.enc_exprs.specs.Known.{Knows}
-use Rattle.enc_exprs.proofs.Knowing.{knows_find}
+use Rattle.enc_flow.specs.Known.{Knows}
+use Rattle.enc_flow.proofs.Knowing.{knows_find}
 
 -- there is a variable at each number below their count
 there : (env : Env) (i : ℕ) → i < length env → is_some (slice_get env i) ≡ true

@@ -2,4 +2,3 @@ pub mod Uses
 pub mod Types
 pub mod Exprs
 pub mod Typing
-pub mod Known

@@ -10,14 +10,13 @@ ghost use Rattle.enc_exprs.specs.Types.{can_be_null, is_bool, is_int, is_list};
 ghost use Rattle.enc_exprs.specs.Uses.{variable as variable_premises};
 ghost use Rattle.enc_exprs.specs.Exprs as spec;
 ghost use Rattle.enc_exprs.specs.Typing.{IsTyped};
-ghost use Rattle.enc_exprs.specs.Known.{Knows};
 
 use crate::lists::{append, at, list};
 use crate::nothing::{empty, nil, written};
 use crate::operands::{Asked, binary, operand};
 use crate::uses::{Use, lend, type_in, variable};
 use enc_ast::{Expr, ExprForm, Fail, Span};
-use enc_flow::Env;
+use enc_flow::{Env, Scope};
 use enc_modes::Ty;
 use enc_types::Names;
 use std::alloc::Global;
@@ -30,7 +29,7 @@ use std::alloc::Global;
 pub fn expr_type(
     alloc: Global,
     names: &Names,
-    env: &Env,
+    env: &Scope,
     expr: &Expr,
     place: Use,
 ) -> Result<Option<Ty>, Fail>
@@ -65,7 +64,7 @@ pub fn expr_type(
 #[tactic(auto, using(enc_premises::proofs::Passing::passing, crate::proofs::Memory::out_of_memory))]
 fn named(
     alloc: Global,
-    env: &Env,
+    env: &Scope,
     place: Use,
     mine: bool,
     name: &str,
@@ -83,7 +82,7 @@ fn named(
 
 #[cycle(expr)]
 #[tactic(auto, using(enc_premises::proofs::Passing::passing))]
-fn negative(alloc: Global, names: &Names, env: &Env, inner: &Expr) -> Result<Option<Ty>, Fail>
+fn negative(alloc: Global, names: &Names, env: &Scope, inner: &Expr) -> Result<Option<Ty>, Fail>
     ensures premises { Passes result (spec.copied env.now is_int (spec.judged names.now inner.now)) }
     ensures ty { IfOk result (λ t. t ≡ Some ty.Int) }
 {
@@ -93,7 +92,7 @@ fn negative(alloc: Global, names: &Names, env: &Env, inner: &Expr) -> Result<Opt
 
 #[cycle(expr)]
 #[tactic(auto, using(enc_premises::proofs::Passing::passing))]
-fn not(alloc: Global, names: &Names, env: &Env, inner: &Expr) -> Result<Option<Ty>, Fail>
+fn not(alloc: Global, names: &Names, env: &Scope, inner: &Expr) -> Result<Option<Ty>, Fail>
     ensures premises { Passes result (spec.copied env.now is_bool (spec.judged names.now inner.now)) }
     ensures ty { IfOk result (λ t. t ≡ Some ty.Bool) }
 {
@@ -103,7 +102,7 @@ fn not(alloc: Global, names: &Names, env: &Env, inner: &Expr) -> Result<Option<T
 
 #[cycle(expr)]
 #[tactic(auto, using(enc_premises::proofs::Passing::passing))]
-fn length(alloc: Global, names: &Names, env: &Env, inner: &Expr) -> Result<Option<Ty>, Fail>
+fn length(alloc: Global, names: &Names, env: &Scope, inner: &Expr) -> Result<Option<Ty>, Fail>
     ensures premises { Passes result (spec.copied env.now is_list (spec.judged names.now inner.now)) }
     ensures ty { IfOk result (λ t. t ≡ Some ty.Int) }
 {
@@ -113,7 +112,7 @@ fn length(alloc: Global, names: &Names, env: &Env, inner: &Expr) -> Result<Optio
 
 #[cycle(expr)]
 #[tactic(auto, using(enc_premises::proofs::Passing::passing))]
-fn is_null(alloc: Global, names: &Names, env: &Env, inner: &Expr) -> Result<Option<Ty>, Fail>
+fn is_null(alloc: Global, names: &Names, env: &Scope, inner: &Expr) -> Result<Option<Ty>, Fail>
     ensures premises { Passes result (spec.operand env.now Looks can_be_null (spec.judged names.now inner.now)) }
     ensures ty { IfOk result (λ t. t ≡ Some ty.Bool) }
 {
@@ -124,7 +123,7 @@ fn is_null(alloc: Global, names: &Names, env: &Env, inner: &Expr) -> Result<Opti
 /// The variables after an expression in a consuming place: where it is a variable of a linear type, that
 /// one is moved. It takes no memory.
 #[tactic(auto, using(crate::proofs::Meaning::names))]
-pub fn consume(env: &mut Env, expr: &Expr)
+pub fn consume(env: &mut Scope, expr: &Expr)
     ensures { (names : Table) → env.new ≡ spec.consumes env.old (spec.judged names expr.now).name }
 {
     match &expr.form {
@@ -139,7 +138,7 @@ pub fn consume(env: &mut Env, expr: &Expr)
 pub fn consumed(
     alloc: Global,
     names: &Names,
-    env: &mut Env,
+    env: &mut Scope,
     expr: &Expr,
 ) -> Result<Option<Ty>, Fail>
     ensures premises { Passes result (spec.expr_premises names.now env.old Consumes expr.now) }
@@ -152,16 +151,15 @@ pub fn consumed(
     Ok(ty)
 }
 
-/// The type of an expression in a copying place. The types of all variables are to be known. It answers a
-/// type exactly where the expression is well typed, and otherwise refuses by the first premise that fails;
-/// where memory runs out, it answers `Fail::Memory`.
+/// The type of an expression in a copying place. It answers a type exactly where the expression is well
+/// typed, and otherwise refuses by the first premise that fails; where memory runs out, it answers
+/// `Fail::Memory`.
 #[tactic(auto, using(enc_premises::proofs::Telling::tells, crate::proofs::Operand::typed))]
 pub fn typed(alloc: Global, names: &Names, env: &Env, expr: &Expr) -> Result<Ty, Fail>
-    requires variables { Knows env.now }
     ensures ok { IfOk result (λ t. IsTyped names.now env.now expr.now Copies t env.now) }
     ensures tells { Tells result (spec.expr_premises names.now env.now Copies expr.now) }
     ensures accepts { (t : Value) → IsTyped names.now env.now expr.now Copies t env.now → MemoryOnly result }
 {
-    let ty = expr_type(alloc, names, env, expr, Use::Copies)?;
+    let ty = expr_type(alloc, names, env.scope(), expr, Use::Copies)?;
     Ok(ty.unwrap())
 }

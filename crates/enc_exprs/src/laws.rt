@@ -12,7 +12,7 @@ ghost use Rattle.enc_exprs.specs.declared.uses.Use.{Use as Place};
 ghost use Rattle.enc_exprs.specs.Uses.{lends, regains};
 ghost use Rattle.enc_exprs.specs.Exprs.{expr_type, expr_premises, judged, after, consumes};
 ghost use Rattle.enc_exprs.specs.Typing.{IsTyped};
-ghost use Rattle.enc_exprs.specs.Known.{Knows};
+ghost use Rattle.enc_flow.specs.Known.{Knows};
 
 /// An expression that is well typed has no premise that fails, and has the type and leaves the variables
 /// that the rules tell. This is a law over the definitions: the call answers nothing, changes nothing and

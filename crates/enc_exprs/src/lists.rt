@@ -11,7 +11,7 @@ use crate::operands::{Asked, matching, operand};
 use crate::types::items;
 use crate::uses::Use;
 use enc_ast::{Boxed, Expr, Fail};
-use enc_flow::Env;
+use enc_flow::Scope;
 use enc_modes::Ty;
 use enc_types::Names;
 use std::alloc::{AllocError, Global};
@@ -19,7 +19,12 @@ use std::alloc::{AllocError, Global};
 /// The type of a list of these elements.
 #[cycle(expr)]
 #[tactic(auto, using(enc_premises::proofs::Passing::passing, crate::proofs::Memory::out_of_memory, crate::proofs::Elements::list_none))]
-pub fn list(alloc: Global, names: &Names, env: &Env, elements: &[Expr]) -> Result<Option<Ty>, Fail>
+pub fn list(
+    alloc: Global,
+    names: &Names,
+    env: &Scope,
+    elements: &[Expr],
+) -> Result<Option<Ty>, Fail>
     ensures premises { Passes result (spec.elements env.now (map (spec.judged names.now) elements.now)) }
     ensures ty { IfOk result (λ t. t ≡ spec.elements_type env.now (map (spec.judged names.now) elements.now)) }
 {
@@ -38,7 +43,7 @@ pub fn list(alloc: Global, names: &Names, env: &Env, elements: &[Expr]) -> Resul
 fn all_match(
     alloc: Global,
     names: &Names,
-    env: &Env,
+    env: &Scope,
     elements: &[Expr],
     first: Option<&Ty>,
 ) -> Result<(), Fail>
@@ -56,7 +61,7 @@ fn all_match(
 pub fn at(
     alloc: Global,
     names: &Names,
-    env: &Env,
+    env: &Scope,
     list: &Expr,
     number: &Expr,
 ) -> Result<Option<Ty>, Fail>
@@ -74,7 +79,7 @@ pub fn at(
 pub fn append(
     alloc: Global,
     names: &Names,
-    env: &Env,
+    env: &Scope,
     list: &Expr,
     element: &Expr,
 ) -> Result<Option<Ty>, Fail>

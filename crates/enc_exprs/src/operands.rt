@@ -10,7 +10,7 @@ use crate::exprs::expr_type;
 use crate::types::{can_be_null, is_bool, is_int, is_plain, item_of, like};
 use crate::uses::Use;
 use enc_ast::{Expr, Fail, Operator, Rule};
-use enc_flow::Env;
+use enc_flow::Scope;
 use enc_modes::{Ty, is_shareable};
 use enc_premises::demand;
 use enc_types::Names;
@@ -79,7 +79,7 @@ fn matches_first(first: Option<&Ty>, ty: Option<&Ty>) -> bool
 pub fn operand(
     alloc: Global,
     names: &Names,
-    env: &Env,
+    env: &Scope,
     expr: &Expr,
     place: Use,
     asked: Asked,
@@ -98,7 +98,7 @@ pub fn operand(
 pub fn matching(
     alloc: Global,
     names: &Names,
-    env: &Env,
+    env: &Scope,
     expr: &Expr,
     first: Option<&Ty>,
 ) -> Result<Option<Ty>, Fail>
@@ -116,7 +116,7 @@ pub fn matching(
 pub fn binary(
     alloc: Global,
     names: &Names,
-    env: &Env,
+    env: &Scope,
     operator: Operator,
     left: &Expr,
     right: &Expr,
@@ -145,7 +145,7 @@ pub fn binary(
 fn two(
     alloc: Global,
     names: &Names,
-    env: &Env,
+    env: &Scope,
     left: &Expr,
     right: &Expr,
     asked: Asked,
@@ -159,7 +159,7 @@ fn two(
 
 #[cycle(expr)]
 #[tactic(auto, using(enc_premises::proofs::Passing::passing))]
-fn alike(alloc: Global, names: &Names, env: &Env, left: &Expr, right: &Expr) -> Result<(), Fail>
+fn alike(alloc: Global, names: &Names, env: &Scope, left: &Expr, right: &Expr) -> Result<(), Fail>
     ensures { Passes result (spec.alike env.now is_plain_type (spec.judged names.now left.now) (spec.judged names.now right.now)) }
 {
     let ty = operand(alloc, names, env, left, Use::Copies, Asked::Plain)?;

@@ -6,7 +6,7 @@ ghost use Rattle.enc_flow.specs.Env.{at_number, find, linear as is_linear_known,
 ghost use Rattle.enc_exprs.specs.Uses as spec;
 
 use enc_ast::{Fail, Rule, Span};
-use enc_flow::Env;
+use enc_flow::Scope;
 use enc_modes::{Ty, is_linear};
 use enc_premises::demand;
 
@@ -25,7 +25,7 @@ pub enum Use {
 /// linear and the place lets no linear one stand. `mine` says that it is `this`, which is never moved.
 /// It takes no memory.
 #[tactic(auto, using(enc_premises::proofs::Passing::passing, crate::proofs::Variables::variables), unfolding(crate::specs::Uses::variable, enc_flow::specs::Env::find))]
-pub fn variable(env: &Env, place: Use, mine: bool, name: &str, span: Span) -> Result<(), Fail>
+pub fn variable(env: &Scope, place: Use, mine: bool, name: &str, span: Span) -> Result<(), Fail>
     ensures { Passes result (spec.variable env.now place mine name.now span) }
 {
     let found = env.find(name);
@@ -40,7 +40,7 @@ pub fn variable(env: &Env, place: Use, mine: bool, name: &str, span: Span) -> Re
 
 /// Refuses a name where there is no variable of this name. It takes no memory.
 #[tactic(auto, using(crate::proofs::Variables::variables), unfolding(crate::specs::Uses::visible, enc_flow::specs::Env::find))]
-pub fn visible(env: &Env, name: &str, span: Span) -> Result<(), Fail>
+pub fn visible(env: &Scope, name: &str, span: Span) -> Result<(), Fail>
     ensures { Passes result (spec.visible env.now name.now span) }
 {
     demand(Rule::EVar, span, env.find(name).is_some())
@@ -49,7 +49,7 @@ pub fn visible(env: &Env, name: &str, span: Span) -> Result<(), Fail>
 /// The variable of a name is moved from now on, where its type is linear. Where there is no variable of
 /// the name, nothing changes. It takes no memory.
 #[tactic(auto, unfolding(crate::specs::Uses::lends))]
-pub fn lend(env: &mut Env, name: &str)
+pub fn lend(env: &mut Scope, name: &str)
     ensures { env.new ≡ spec.lends env.old name.now }
 {
     if let Some(variable) = env.find(name) {
@@ -60,7 +60,7 @@ pub fn lend(env: &mut Env, name: &str)
 /// The variable of a name can be used again. Where there is no variable of the name, nothing changes. It
 /// takes no memory.
 #[tactic(auto, unfolding(crate::specs::Uses::regains))]
-pub fn regain(env: &mut Env, name: &str)
+pub fn regain(env: &mut Scope, name: &str)
     ensures { env.new ≡ spec.regains env.old name.now }
 {
     if let Some(variable) = env.find(name) {
@@ -70,7 +70,7 @@ pub fn regain(env: &mut Env, name: &str)
 
 /// The type of a variable, or `None` where it isn't known or there is no variable of this name.
 #[tactic(auto, unfolding(enc_flow::specs::Env::find))]
-pub fn type_in<'a>(env: &'a Env, name: &str) -> Option<&'a Ty>
+pub fn type_in<'a>(env: &'a Scope, name: &str) -> Option<&'a Ty>
     ensures { option_copied result ≡ ty_of (find env.now name.now) }
 {
     match env.find(name) {
@@ -89,7 +89,7 @@ fn lets_linear(place: Use, mine: bool) -> bool
     }
 }
 
-fn is_moved(env: &Env, found: Option<u32>) -> bool
+fn is_moved(env: &Scope, found: Option<u32>) -> bool
     requires { IfSome found (λ variable. variable < length env.now) }
     ensures { result ≡ moved_of (at_number env.now found) }
 {
@@ -99,7 +99,7 @@ fn is_moved(env: &Env, found: Option<u32>) -> bool
     }
 }
 
-fn is_linear_at(env: &Env, found: Option<u32>) -> bool
+fn is_linear_at(env: &Scope, found: Option<u32>) -> bool
     requires { IfSome found (λ variable. variable < length env.now) }
     ensures { result ≡ is_linear_known (ty_of (at_number env.now found)) }
 {

@@ -1,2 +1,3 @@
 pub mod Vars
 pub mod Unders
+pub mod Knowing

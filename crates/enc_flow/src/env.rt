@@ -1,67 +1,54 @@
-// The visible variables.
-ghost use Rattle.std.specs.Prelude.{◌≡◌, ◌<◌, ◌≤◌, ◌↔◌, IsTrue, [], length, take, not, IfOk, IfSome, OnOk, OnErr, true, false, Some, None, slice_get};
-ghost use Rattle.std.specs.Option.{option_copied, IsSome};
+// The visible variables, each of which has a type.
+ghost use Rattle.std.specs.Prelude.{◌≡◌, ◌<◌, ◌≤◌, ◌↔◌, IsTrue, [], length, take, not, IfOk, IfSome, OnOk, OnErr, false, Some, slice_get};
 ghost use Rattle.enc_flow.specs.Env as spec;
+ghost use Rattle.enc_flow.specs.Known.{Knows};
 
+use crate::scope::Scope;
 use enc_ast::Word;
-use enc_modes::{Ty, is_linear};
+use enc_modes::Ty;
 use std::alloc::{AllocError, Global};
 use std::marker::Model;
 
-/// A variable. Where its type is not known, no rule fails because of it.
-#[derive(Drop)]
-pub struct Var {
-    pub word: Word,
-    pub ty: Option<Ty>,
-    pub moved: bool,
-}
-
-impl Var {
-    fn copy(&self, alloc: Global) -> Result<Var, AllocError>
-        ensures { IfOk result (λ copied. copied ≡ self.now) }
-    {
-        let ty = match &self.ty {
-            None => None,
-            Some(ty) => Some(ty.copy(alloc)?),
-        };
-        Ok(Var {
-            word: self.word.copy()?,
-            ty,
-            moved: self.moved,
-        })
-    }
-}
-
-/// The visible variables, in the order in which they were declared. A variable goes by its place in
-/// that order, from 0 on. There are at most 1,024.
+/// The visible variables, each with its type, in the order in which they were declared. A variable goes
+/// by its place in that order, from 0 on. There are at most 1,024.
 #[derive(Drop)]
 pub struct Env {
-    vars: Vec<Var>,
+    scope: Scope,
 }
 
 impl Model for Env {
-    ghost use Rattle.std.specs.Prelude.{List, length, ◌≤◌};
+    ghost use Rattle.std.specs.Prelude.{List};
     ghost use Rattle.std.specs.Coded.{codes};
     ghost use Rattle.enc_modes.specs.contracts.ty.Ty as ty;
-    ghost use Rattle.enc_flow.specs.declared.env.Var.{Var};
+    ghost use Rattle.enc_flow.specs.declared.scope.Var.{Var};
+    ghost use Rattle.enc_flow.specs.Known.{Knows};
 
     ghost Value = { List Var };
 
     ghost coded = { Prim.hlevel (codes, ty.the_row.coded) };
 
-    ghost view = { λ env. env.vars.items };
+    ghost view = { λ env. env.scope };
 
-    ghost invariant = { λ env. length env.vars.items ≤ 1024 };
+    ghost invariant = { λ env. Knows env.scope };
 }
 
 impl Env {
     /// No variable. It takes no memory yet.
+    #[tactic(auto, using(crate::proofs::Knowing::knowing))]
     pub fn new(alloc: Global) -> Env
         ensures { result ≡ [] }
     {
         Env {
-            vars: Vec::new(alloc),
+            scope: Scope::new(alloc),
         }
+    }
+
+    /// The same variables, as they are judged.
+    pub fn scope(&self) -> &Scope
+        ensures value { result.now ≡ self.now }
+        ensures known { Knows self.now }
+    {
+        &self.scope
     }
 
     /// How many variables are visible.
@@ -69,85 +56,44 @@ impl Env {
         ensures value { result ≡ length self.now }
         ensures few { result ≤ 1024 }
     {
-        self.vars.len()
+        self.scope.len()
     }
 
     /// Whether no variable is visible.
     pub fn is_empty(&self) -> bool
         ensures { IsTrue result ↔ (self.now ≡ []) }
     {
-        self.vars.is_empty()
+        self.scope.is_empty()
     }
 
-    /// Adds a variable of a known type, which isn't moved, and answers its number. Where memory runs out
-    /// the word and the type are lost, and the variables stay as they were.
+    /// Adds a variable, which isn't moved, and answers its number. Where memory runs out the word and the
+    /// type are lost, and the variables stay as they were.
+    #[tactic(auto, using(crate::proofs::Knowing::knowing))]
     pub fn declare(&mut self, word: Word, ty: Ty) -> Result<u32, AllocError>
         requires { length self.old < 1024 }
         ensures ok { OnOk result (self.new ≡ spec.declares self.old word (Some ty)) }
         ensures number { IfOk result (λ number. number ≡ length self.old) }
         ensures err { OnErr result (self.new ≡ self.old) }
     {
-        self.add(word, Some(ty))
-    }
-
-    /// Adds a variable of which no type is known, and answers its number. Where memory runs out the word
-    /// is lost, and the variables stay as they were.
-    pub fn declare_unknown(&mut self, word: Word) -> Result<u32, AllocError>
-        requires { length self.old < 1024 }
-        ensures ok { OnOk result (self.new ≡ spec.declares self.old word None) }
-        ensures number { IfOk result (λ number. number ≡ length self.old) }
-        ensures err { OnErr result (self.new ≡ self.old) }
-    {
-        self.add(word, None)
-    }
-
-    fn add(&mut self, word: Word, ty: Option<Ty>) -> Result<u32, AllocError>
-        requires { length self.old < 1024 }
-        ensures ok { OnOk result (self.new ≡ spec.declares self.old word ty) }
-        ensures number { IfOk result (λ number. number ≡ length self.old) }
-        ensures err { OnErr result (self.new ≡ self.old) }
-    {
-        let number = self.vars.len();
-        self.vars.push(Var {
-            word,
-            ty,
-            moved: false,
-        })?;
-        Ok(number as u32)
+        self.scope.declare(word, ty)
     }
 
     /// The number of the variable of this name, or `None` where there is none. Of several it is the one
     /// that was declared last.
-    #[tactic(auto, using(crate::proofs::Vars::newest), unfolding(crate::specs::Env::number_of))]
     pub fn find(&self, name: &str) -> Option<u32>
         ensures value { result ≡ spec.number_of self.now name.now }
         ensures within { IfSome result (λ number. number < length self.now) }
     {
-        let mut at = self.vars.len();
-        while at > 0 {
-            at -= 1;
-            if self.vars[at].word.is(name) {
-                return Some(at as u32);
-            }
-        }
-        None
+        self.scope.find(name)
     }
 
-    /// The type of a variable, or `None` where it isn't known.
-    pub fn known(&self, variable: u32) -> Option<&Ty>
-        requires { variable < length self.now }
-        ensures { option_copied result ≡ spec.ty_of (slice_get self.now variable) }
-    {
-        self.vars[variable as usize].ty.as_ref()
-    }
-
-    /// The type of a variable whose type is known.
+    /// The type of a variable.
+    #[tactic(auto, using(crate::proofs::Knowing::knowing))]
     pub fn ty(&self, variable: u32) -> &Ty
-        requires exists { variable < length self.now }
-        requires known { IsSome (spec.ty_of (slice_get self.now variable)) }
+        requires { variable < length self.now }
         ensures { Some result.now ≡ spec.ty_of (slice_get self.now variable) }
     {
-        self.known(variable).unwrap()
+        self.scope.known(variable).unwrap()
     }
 
     /// Whether a variable was moved.
@@ -155,91 +101,59 @@ impl Env {
         requires { variable < length self.now }
         ensures { result ≡ spec.moved_of (slice_get self.now variable) }
     {
-        self.vars[variable as usize].moved
+        self.scope.is_moved(variable)
     }
 
     /// Uses a variable up: where its type is linear, it is moved from now on. Answers false where it was
     /// moved before. It takes no memory.
+    #[tactic(auto, using(crate::proofs::Knowing::knowing))]
     pub fn take(&mut self, variable: u32) -> bool
         requires { variable < length self.old }
         ensures value { self.new ≡ spec.takes self.old variable }
         ensures free { result ≡ not (spec.moved_of (slice_get self.old variable)) }
     {
-        let free = !self.is_moved(variable);
-        if self.is_linear_at(variable) {
-            self.mark(variable, true);
-        }
-        free
+        self.scope.take(variable)
     }
 
     /// Makes a variable usable again, as when a value is put into it. It takes no memory.
+    #[tactic(auto, using(crate::proofs::Knowing::knowing))]
     pub fn give(&mut self, variable: u32)
         requires { variable < length self.old }
         ensures { self.new ≡ spec.marked_at self.old variable false }
     {
-        self.mark(variable, false);
-    }
-
-    fn is_linear_at(&self, variable: u32) -> bool
-        requires { variable < length self.now }
-        ensures { result ≡ spec.linear (spec.ty_of (slice_get self.now variable)) }
-    {
-        match self.known(variable) {
-            None => false,
-            Some(ty) => is_linear(ty),
-        }
-    }
-
-    #[tactic(auto, unfolding(crate::specs::Env::marked_at))]
-    fn mark(&mut self, variable: u32, moved: bool)
-        requires { variable < length self.old }
-        ensures { self.new ≡ spec.marked_at self.old variable moved }
-    {
-        self.vars[variable as usize].moved = moved;
+        self.scope.give(variable);
     }
 
     /// Keeps the first variables, `count` of them or all where there are fewer, and drops the others.
+    #[tactic(auto, using(crate::proofs::Knowing::knowing))]
     pub fn cut(&mut self, count: u32)
         ensures { self.new ≡ take count self.old }
     {
-        self.vars.truncate(count as usize);
+        self.scope.cut(count);
     }
 
     /// An environment of its own with the same variables, moved or not.
+    #[tactic(auto, using(crate::proofs::Knowing::knowing))]
     pub fn copy(&self) -> Result<Env, AllocError>
         ensures { IfOk result (λ copied. copied ≡ self.now) }
     {
-        let mut vars = Vec::new(*self.vars.allocator());
-        for var in &self.vars {
-            vars.push(var.copy(*self.vars.allocator())?)?;
-        }
-        Ok(Env { vars })
+        Ok(Env {
+            scope: self.scope.copy()?,
+        })
     }
 
     /// Each variable that is moved in the other environment is moved in this one too. It takes no memory.
-    #[tactic(auto, using(crate::proofs::Vars::merging))]
+    #[tactic(auto, using(crate::proofs::Knowing::knowing))]
     pub fn merge(&mut self, other: &Env)
         ensures { self.new ≡ spec.merged self.old other.now }
     {
-        let both = self.vars.len().min(other.vars.len());
-        for at in 0..both {
-            self.vars[at].moved |= other.vars[at].moved;
-        }
+        self.scope.merge(&other.scope);
     }
 
     /// Whether both have as many variables and the same of them are moved. It takes no memory.
-    #[tactic(auto, using(crate::proofs::Vars::comparing))]
     pub fn same_moves(&self, other: &Env) -> bool
         ensures { result ≡ spec.same_moves self.now other.now }
     {
-        if self.vars.len() != other.vars.len() {
-            return false;
-        }
-        for at in 0..self.vars.len() {
-            if self.vars[at].moved != other.vars[at].moved {
-                return false;
-            }
-        }
-        true
+        self.scope.same_moves(&other.scope)
     }
 }

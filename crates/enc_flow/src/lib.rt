@@ -3,6 +3,8 @@
 
 mod env;
 mod laws;
+mod scope;
 
 pub use env::Env;
 pub use laws::{blocks, branches, growth, loops};
+pub use scope::Scope;

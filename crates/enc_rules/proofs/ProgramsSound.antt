@@ -16,7 +16,7 @@ use Rattle.enc_types.specs.Names.{Names, found_at, meaning_of, names_of}
 use Rattle.enc_types.specs.Bodies.{in_row, body_types}
 use Rattle.enc_decls.specs.Rules.{method_premises, decl_premises, table_premises, HasTables}
 use Rattle.enc_names.specs.Members.{Tables, tables_of, type_or_unit}
-use Rattle.enc_exprs.specs.Known.{Knows, end, more}
+use Rattle.enc_flow.specs.Known.{Knows, end, more}
 use Rattle.enc_rules.proofs.TypesKnown.{AreKnown}
 use Rattle.enc_rules.specs.Context.{this_layer, this_type}
 use Rattle.enc_rules.specs.Stmts.{acts, all_after}

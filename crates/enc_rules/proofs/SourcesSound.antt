@@ -29,7 +29,7 @@ use Rattle.enc_exprs.specs.Types.{item_of}
 use Rattle.enc_exprs.specs.Exprs.{judged, expr_type, expr_premises, consumes}
 use Rattle.enc_exprs.specs.Typing.{IsTyped, Copied, layer}
 use Rattle.enc_exprs.specs.Typing as e
-use Rattle.enc_exprs.specs.Known.{Knows}
+use Rattle.enc_flow.specs.Known.{Knows}
 use Rattle.enc_exprs.proofs.ExprSound.{Sound, expr_sound}
 use Rattle.enc_exprs.proofs.Knowing.{knows_lends, knows_regains, knows_consumes}
 use Rattle.enc_exprs.proofs.Variables.{Named, variable_known}

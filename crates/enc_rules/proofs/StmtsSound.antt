@@ -23,8 +23,9 @@ use Rattle.enc_exprs.specs.Uses.{this_word, lends}
 use Rattle.enc_exprs.specs.Types.{is_plain}
 use Rattle.enc_exprs.specs.Exprs.{judged, expr_type, expr_premises}
 use Rattle.enc_exprs.specs.Typing.{IsTyped, Copied}
-use Rattle.enc_exprs.specs.Known.{Knows}
-use Rattle.enc_exprs.proofs.Knowing.{knows_find, knows_lends, knows_regains, knows_consumes, knows_declares, knows_merged, knows_take}
+use Rattle.enc_flow.specs.Known.{Knows}
+use Rattle.enc_flow.proofs.Knowing.{knows_find, knows_declares, knows_merged, knows_take}
+use Rattle.enc_exprs.proofs.Knowing.{knows_lends, knows_regains, knows_consumes}
 use Rattle.enc_rules.proofs.TypesKnown.{AreKnown}
 use Rattle.enc_exprs.proofs.Variables.{variable_known}
 use Rattle.enc_exprs.proofs.Sorts.{bool_is}

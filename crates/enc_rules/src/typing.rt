@@ -5,7 +5,6 @@ ghost use Rattle.enc_premises.specs.Passing.{Tells, MemoryOnly};
 ghost use Rattle.enc_exprs.specs.declared.uses.Use.TheVariants.{Copies};
 ghost use Rattle.enc_exprs.specs.Exprs.{expr_premises};
 ghost use Rattle.enc_exprs.specs.Typing.{IsTyped};
-ghost use Rattle.enc_exprs.specs.Known.{Knows};
 
 use enc_ast::{Expr, Fail};
 use enc_exprs::typed;
@@ -14,11 +13,10 @@ use enc_modes::Ty;
 use enc_names::Tables;
 use std::alloc::Global;
 
-/// The type of an expression in a copying place. The types of all variables are to be known. It answers a
-/// type exactly where the expression is well typed, and otherwise refuses by the first premise that fails;
-/// where memory runs out, it answers `Fail::Memory`.
+/// The type of an expression in a copying place. It answers a type exactly where the expression is well
+/// typed, and otherwise refuses by the first premise that fails; where memory runs out, it answers
+/// `Fail::Memory`.
 pub fn type_of(alloc: Global, tables: &Tables, env: &Env, expr: &Expr) -> Result<Ty, Fail>
-    requires variables { Knows env.now }
     ensures ok { IfOk result (λ t. IsTyped tables.now.names env.now expr.now Copies t env.now) }
     ensures tells { Tells result (expr_premises tables.now.names env.now Copies expr.now) }
     ensures accepts { (t : Value) → IsTyped tables.now.names env.now expr.now Copies t env.now → MemoryOnly result }

@@ -14,7 +14,7 @@ ghost use Rattle.enc_sources.specs.Arguments.{wanted};
 use crate::parts::{is_cap, is_subordinate, is_target};
 use enc_ast::{Expr, Fail, Receiver, Rule, Span};
 use enc_exprs::{Use, consumed, lend, regain, type_in, variable};
-use enc_flow::Env;
+use enc_flow::Scope;
 use enc_modes::{Ty, is_sendable, is_shareable};
 use enc_names::{Signature, Slot, Tables};
 use enc_premises::demand;
@@ -28,7 +28,7 @@ use std::alloc::Global;
 pub fn invoke(
     alloc: Global,
     names: &Names,
-    env: &mut Env,
+    env: &mut Scope,
     to: &Receiver,
     params: Option<&[Slot]>,
     args: &[Expr],
@@ -44,7 +44,7 @@ pub fn invoke(
 }
 
 /// The type of a receiver, or `None` where it isn't known or there is no such variable.
-pub fn receiver_type<'a>(env: &'a Env, to: &Receiver) -> Option<&'a Ty>
+pub fn receiver_type<'a>(env: &'a Scope, to: &Receiver) -> Option<&'a Ty>
     ensures { option_copied result ≡ spec.receiver_type env.now to.now }
 {
     type_in(env, word_of(to))
@@ -83,7 +83,7 @@ fn span_of(to: &Receiver) -> Span
 pub fn arguments(
     alloc: Global,
     names: &Names,
-    env: &mut Env,
+    env: &mut Scope,
     params: Option<&[Slot]>,
     args: &[Expr],
 ) -> Result<(), Fail>
@@ -105,7 +105,7 @@ fn asked(params: Option<&[Slot]>, count: usize) -> &[Slot]
 fn each_argument(
     alloc: Global,
     names: &Names,
-    env: &mut Env,
+    env: &mut Scope,
     params: &[Slot],
     args: &[Expr],
 ) -> Result<(), Fail>
@@ -128,7 +128,7 @@ fn param_at(params: &[Slot], at: usize) -> Option<&Slot>
 fn argument(
     alloc: Global,
     names: &Names,
-    env: &mut Env,
+    env: &mut Scope,
     param: Option<&Slot>,
     arg: &Expr,
 ) -> Result<(), Fail>

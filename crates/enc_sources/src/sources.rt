@@ -27,7 +27,7 @@ use crate::shapes::{
 };
 use enc_ast::{Expr, Fail, Name, Receiver, Rule, SourceForm, Span};
 use enc_exprs::{Use, consumed, expr_type, visible};
-use enc_flow::Env;
+use enc_flow::Scope;
 use enc_modes::{Ty, is_linear};
 use std::alloc::Global;
 
@@ -37,7 +37,7 @@ use std::alloc::Global;
 pub fn source(
     alloc: Global,
     context: &Context<'_>,
-    env: &mut Env,
+    env: &mut Scope,
     form: &SourceForm,
 ) -> Result<Outcome, Fail>
     ensures premises { Passes result (spec.outcome context.now env.old form.now).parts }
@@ -82,7 +82,12 @@ pub fn source(
 }
 
 #[tactic(auto, unfolding(enc_rules::specs::Sources::outcome))]
-fn value(alloc: Global, context: &Context<'_>, env: &mut Env, expr: &Expr) -> Result<Outcome, Fail>
+fn value(
+    alloc: Global,
+    context: &Context<'_>,
+    env: &mut Scope,
+    expr: &Expr,
+) -> Result<Outcome, Fail>
     ensures premises { Passes result (spec.outcome context.now env.old (form.Expr expr.now)).parts }
     ensures own { IfOk result (λ o. o.own ≡ spec.free) }
     ensures more { IfOk result (λ o. o.more ≡ spec.free) }
@@ -98,7 +103,7 @@ fn value(alloc: Global, context: &Context<'_>, env: &mut Env, expr: &Expr) -> Re
 }
 
 #[tactic(auto, using(enc_premises::proofs::Passing::passing, enc_exprs::proofs::Memory::out_of_memory), unfolding(enc_rules::specs::Sources::outcome))]
-fn new(context: &Context<'_>, env: &Env, class: &Name) -> Result<Outcome, Fail>
+fn new(context: &Context<'_>, env: &Scope, class: &Name) -> Result<Outcome, Fail>
     ensures premises { Passes result (spec.outcome context.now env.now (form.New class.now)).parts }
     ensures own { IfOk result (λ o. o.own ≡ (spec.outcome context.now env.now (form.New class.now)).own) }
     ensures more { IfOk result (λ o. o.more ≡ spec.free) }
@@ -119,7 +124,7 @@ fn new(context: &Context<'_>, env: &Env, class: &Name) -> Result<Outcome, Fail>
 fn field(
     alloc: Global,
     context: &Context<'_>,
-    env: &Env,
+    env: &Scope,
     rule: Rule,
     linear: bool,
     span: Span,
@@ -157,7 +162,7 @@ fn fits(linear: bool, field: Option<&Ty>) -> bool
 pub fn call(
     alloc: Global,
     context: &Context<'_>,
-    env: &mut Env,
+    env: &mut Scope,
     to: &Receiver,
     name: &Name,
     args: &[Expr],
@@ -189,7 +194,7 @@ pub fn call(
 pub fn send(
     alloc: Global,
     context: &Context<'_>,
-    env: &mut Env,
+    env: &mut Scope,
     to: &Receiver,
     name: &Name,
     args: &[Expr],
@@ -219,7 +224,7 @@ pub fn send(
 fn part(
     alloc: Global,
     context: &Context<'_>,
-    env: &Env,
+    env: &Scope,
     shape: Shape,
     expr: &Expr,
 ) -> Result<Outcome, Fail>
@@ -244,7 +249,7 @@ fn part(
 fn trees(
     alloc: Global,
     context: &Context<'_>,
-    env: &Env,
+    env: &Scope,
     left: &Expr,
     right: &Expr,
 ) -> Result<Outcome, Fail>
@@ -285,7 +290,7 @@ fn may_be_tree(ty: Option<&Ty>) -> bool
 fn applied(
     alloc: Global,
     context: &Context<'_>,
-    env: &mut Env,
+    env: &mut Scope,
     shape: Shape,
     expr: &Expr,
     name: &Name,

@@ -1,5 +1,6 @@
 use Rattle.std.proofs.Common.{length}
-use Rattle.enc_exprs.proofs.Knowing.{knows_lends, knows_regains, knows_consumes, knows_declares, knows_merged, knows_take}
+use Rattle.enc_flow.proofs.Knowing.{knows_declares, knows_merged, knows_take}
+use Rattle.enc_exprs.proofs.Knowing.{knows_lends, knows_regains, knows_consumes}
 use Rattle.enc_exprs.proofs.laws.types_stay_known.Goals as goal
 
 pub returns : goal.returns

@@ -1,6 +1,6 @@
 use Rattle.std.proofs.Common.{◌≡◌, drop, length}
 use Rattle.enc_flow.specs.Env.{same_moves}
-use Rattle.enc_flow.proofs.env.Env.same_moves.Given as goal
+use Rattle.enc_flow.proofs.scope.Scope.same_moves.Given as goal
 
 abbrev pub invariant-loop-at : goal.invariant-loop-at
 invariant-loop-at l = record {

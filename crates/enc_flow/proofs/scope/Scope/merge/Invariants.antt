@@ -1,6 +1,6 @@
 use Rattle.std.proofs.Common.{◌≡◌, ◌++◌, take, drop, length}
 use Rattle.enc_flow.specs.Env.{merged}
-use Rattle.enc_flow.proofs.env.Env.merge.Given as goal
+use Rattle.enc_flow.proofs.scope.Scope.merge.Given as goal
 
 abbrev pub invariant-loop-at : goal.invariant-loop-at
 invariant-loop-at l = record {
