@@ -2,7 +2,7 @@
 
 use crate::marked::{count, joined, unmarked};
 use enc_ast::{Decl, Expr, ExprForm, Fail as Refusal, Program, Reject, Span, StmtForm, Word};
-use enc_exprs::{Use, expr_type, typed};
+use enc_exprs::{Told, Use, expr_type, typed};
 use enc_flow::{Env, Scope};
 use enc_modes::Ty;
 use enc_names::{Tables, tables};
@@ -284,7 +284,7 @@ fn no_rule_fails_because_of_an_unknown_type(rt: HostRuntime) -> Result<(), Fail>
     let seen = variable_at(alloc, "z", 0, 1)?;
     for place in [Use::Copies, Use::Consumes, Use::Looks] {
         let found = expr_type(alloc, tables.names(), &scope, &seen, place);
-        assert!(rt; matches!(found, Ok(None)));
+        assert!(rt; matches!(found, Ok(Told::Unknown)));
     }
     Ok(())
 }

@@ -86,8 +86,11 @@ pub fn assign(
 {
     let word = name.word.as_str();
     visible(env, word, name.span)?;
-    let ty = expr_type(alloc, context.names(), env, value, Use::Consumes)?;
-    demand(Rule::SAssign, span, agree(type_in(env, word), ty.as_ref()))?;
+    let fits = {
+        let ty = expr_type(alloc, context.names(), env, value, Use::Consumes)?;
+        agree(type_in(env, word), ty.ty())
+    };
+    demand(Rule::SAssign, span, fits)?;
     use_up(context, env, value);
     regain(env, word);
     Ok(())
@@ -108,8 +111,11 @@ pub fn store(
     ensures after { OnOk result (env.new ≡ spec.consumed context.now env.old value.now) }
 {
     visible(env, "this", place)?;
-    let ty = expr_type(alloc, context.names(), env, value, Use::Consumes)?;
-    demand(Rule::SStore, span, fits_field(context, name, ty.as_ref()))?;
+    let fits = {
+        let ty = expr_type(alloc, context.names(), env, value, Use::Consumes)?;
+        fits_field(context, name, ty.ty())
+    };
+    demand(Rule::SStore, span, fits)?;
     demand(Rule::SReadonly, span, !context.only_reads())?;
     use_up(context, env, value);
     Ok(())
@@ -175,9 +181,12 @@ pub fn give_back(
     ensures premises { Passes result (spec.return_premises context.now env.old value.now span) }
     ensures after { OnOk result (env.new ≡ spec.consumed context.now env.old value.now) }
 {
-    let ty = expr_type(alloc, context.names(), env, value, Use::Consumes)?;
+    let fits = {
+        let ty = expr_type(alloc, context.names(), env, value, Use::Consumes)?;
+        is_result(context, ty.ty())
+    };
     suspend(context, span)?;
-    demand(Rule::SReturn, span, is_result(context, ty.as_ref()))?;
+    demand(Rule::SReturn, span, fits)?;
     use_up(context, env, value);
     Ok(())
 }
@@ -241,9 +250,10 @@ fn prints_too(
     ensures premises { Passes result (expr_premises context.now.tables.names env.now Copies value.now) }
     ensures plain { IfOk result (λ plain. plain ≡ (before && spec.prints context.now env.now value.now)) }
 {
-    match expr_type(alloc, context.names(), env, value, Use::Copies)? {
+    let ty = expr_type(alloc, context.names(), env, value, Use::Copies)?;
+    match ty.ty() {
         None => Ok(before),
-        Some(ty) => Ok(before && is_plain(&ty)),
+        Some(ty) => Ok(before && is_plain(ty)),
     }
 }
 
@@ -259,7 +269,7 @@ pub fn condition(
     ensures { Passes result (spec.condition context.now env.now rule value.now) }
 {
     let ty = expr_type(alloc, context.names(), env, value, Use::Copies)?;
-    let fits = match &ty {
+    let fits = match ty.ty() {
         None => true,
         Some(ty) => is_bool(ty),
     };

@@ -166,9 +166,12 @@ fn together(
     ensures premises { Passes result (spec.atomic_premises context.now env.old owner.now (spec.acts body.now) span) }
     ensures after { OnOk result (env.new ≡ spec.block_after (spec.within context.now) env.old env.old (spec.acts body.now)) }
 {
-    let ty = expr_type(alloc, context.names(), env, owner, Use::Copies)?;
+    let fits = {
+        let ty = expr_type(alloc, context.names(), env, owner, Use::Copies)?;
+        may_own(ty.ty())
+    };
     block(alloc, &context.within(), env, env.len(), body)?;
-    demand(Rule::SAtomic, span, may_own(ty.as_ref()) && !context.inside)
+    demand(Rule::SAtomic, span, fits && !context.inside)
 }
 
 /// Whether messages can be sent to what has this type, as far as it is known.

@@ -8,12 +8,14 @@ ghost use Rattle.enc_types.specs.Names.{Names as Table};
 ghost use Rattle.enc_exprs.specs.declared.uses.Use.TheVariants.{Copies, Consumes, Looks};
 ghost use Rattle.enc_exprs.specs.Types.{can_be_null, is_bool, is_int, is_list};
 ghost use Rattle.enc_exprs.specs.Uses.{variable as variable_premises};
+ghost use Rattle.enc_exprs.specs.Told.{told};
 ghost use Rattle.enc_exprs.specs.Exprs as spec;
 ghost use Rattle.enc_exprs.specs.Typing.{IsTyped};
 
 use crate::lists::{append, at, list};
-use crate::nothing::{empty, nil, written};
+use crate::nothing::{empty, nil, null};
 use crate::operands::{Asked, binary, operand};
+use crate::told::Told;
 use crate::uses::{Use, lend, type_in, variable};
 use enc_ast::{Expr, ExprForm, Fail, Span};
 use enc_flow::{Env, Scope};
@@ -21,20 +23,20 @@ use enc_modes::Ty;
 use enc_types::Names;
 use std::alloc::Global;
 
-/// The type of an expression in a place, or `None` where no premise fails and it isn't known. It refuses
-/// by the first premise that fails, in the order of the text. The types that it makes and copies take
-/// memory: where that runs out, it answers `Fail::Memory`.
+/// The type of an expression in a place, as far as it is known where no premise fails. It refuses by the
+/// first premise that fails, in the order of the text. The types that it makes take memory: where that
+/// runs out, it answers `Fail::Memory`.
 #[cycle(expr)]
 #[tactic(auto, using(crate::proofs::Meaning::exprs))]
-pub fn expr_type(
+pub fn expr_type<'a>(
     alloc: Global,
     names: &Names,
-    env: &Scope,
+    env: &'a Scope,
     expr: &Expr,
     place: Use,
-) -> Result<Option<Ty>, Fail>
+) -> Result<Told<'a>, Fail>
     ensures premises { Passes result (spec.expr_premises names.now env.now place expr.now) }
-    ensures ty { IfOk result (λ t. t ≡ spec.expr_type names.now env.now expr.now) }
+    ensures ty { IfOk result (λ t. told t ≡ spec.expr_type names.now env.now expr.now) }
 {
     match &expr.form {
         ExprForm::Binary(operator, left, right) => {
@@ -42,16 +44,16 @@ pub fn expr_type(
         }
         ExprForm::Negative(inner) => negative(alloc, names, env, inner.get()),
         ExprForm::Not(inner) => not(alloc, names, env, inner.get()),
-        ExprForm::Int(_) => Ok(Some(Ty::Int)),
-        ExprForm::Text(_) => Ok(Some(Ty::Text)),
-        ExprForm::True => Ok(Some(Ty::Bool)),
-        ExprForm::False => Ok(Some(Ty::Bool)),
-        ExprForm::Unit => Ok(Some(Ty::Unit)),
-        ExprForm::This => named(alloc, env, place, true, "this", expr.span),
-        ExprForm::Name(word) => named(alloc, env, place, false, word.as_str(), expr.span),
+        ExprForm::Int(_) => Ok(Told::Made(Ty::Int)),
+        ExprForm::Text(_) => Ok(Told::Made(Ty::Text)),
+        ExprForm::True => Ok(Told::Made(Ty::Bool)),
+        ExprForm::False => Ok(Told::Made(Ty::Bool)),
+        ExprForm::Unit => Ok(Told::Made(Ty::Unit)),
+        ExprForm::This => named(env, place, true, "this", expr.span),
+        ExprForm::Name(word) => named(env, place, false, word.as_str(), expr.span),
         ExprForm::Parens(inner) => expr_type(alloc, names, env, inner.get(), Use::Copies),
         ExprForm::List(elements) => list(alloc, names, env, elements.as_slice()),
-        ExprForm::Null(text) => written(names, text, Asked::Null, expr.span),
+        ExprForm::Null(text) => null(names, text, expr.span),
         ExprForm::Empty(text) => empty(alloc, names, text, expr.span),
         ExprForm::Nil(text) => nil(alloc, names, text, expr.span),
         ExprForm::Len(inner) => length(alloc, names, env, inner.get()),
@@ -61,63 +63,64 @@ pub fn expr_type(
     }
 }
 
-#[tactic(auto, using(enc_premises::proofs::Passing::passing, crate::proofs::Memory::out_of_memory))]
-fn named(
-    alloc: Global,
-    env: &Scope,
+#[tactic(auto, using(enc_premises::proofs::Passing::passing))]
+fn named<'a>(
+    env: &'a Scope,
     place: Use,
     mine: bool,
     name: &str,
     span: Span,
-) -> Result<Option<Ty>, Fail>
+) -> Result<Told<'a>, Fail>
     ensures premises { Passes result (variable_premises env.now place mine name.now span) }
-    ensures ty { IfOk result (λ t. t ≡ ty_of (find env.now name.now)) }
+    ensures ty { IfOk result (λ t. told t ≡ ty_of (find env.now name.now)) }
 {
     variable(env, place, mine, name, span)?;
-    match type_in(env, name) {
-        Some(ty) => Ok(Some(ty.copy(alloc)?)),
-        None => Ok(None),
-    }
+    Ok(Told::seen(type_in(env, name)))
 }
 
 #[cycle(expr)]
 #[tactic(auto, using(enc_premises::proofs::Passing::passing))]
-fn negative(alloc: Global, names: &Names, env: &Scope, inner: &Expr) -> Result<Option<Ty>, Fail>
+fn negative<'a>(
+    alloc: Global,
+    names: &Names,
+    env: &'a Scope,
+    inner: &Expr,
+) -> Result<Told<'a>, Fail>
     ensures premises { Passes result (spec.copied env.now is_int (spec.judged names.now inner.now)) }
-    ensures ty { IfOk result (λ t. t ≡ Some ty.Int) }
+    ensures ty { IfOk result (λ t. told t ≡ Some ty.Int) }
 {
     operand(alloc, names, env, inner, Use::Copies, Asked::Int)?;
-    Ok(Some(Ty::Int))
+    Ok(Told::Made(Ty::Int))
 }
 
 #[cycle(expr)]
 #[tactic(auto, using(enc_premises::proofs::Passing::passing))]
-fn not(alloc: Global, names: &Names, env: &Scope, inner: &Expr) -> Result<Option<Ty>, Fail>
+fn not<'a>(alloc: Global, names: &Names, env: &'a Scope, inner: &Expr) -> Result<Told<'a>, Fail>
     ensures premises { Passes result (spec.copied env.now is_bool (spec.judged names.now inner.now)) }
-    ensures ty { IfOk result (λ t. t ≡ Some ty.Bool) }
+    ensures ty { IfOk result (λ t. told t ≡ Some ty.Bool) }
 {
     operand(alloc, names, env, inner, Use::Copies, Asked::Bool)?;
-    Ok(Some(Ty::Bool))
+    Ok(Told::Made(Ty::Bool))
 }
 
 #[cycle(expr)]
 #[tactic(auto, using(enc_premises::proofs::Passing::passing))]
-fn length(alloc: Global, names: &Names, env: &Scope, inner: &Expr) -> Result<Option<Ty>, Fail>
+fn length<'a>(alloc: Global, names: &Names, env: &'a Scope, inner: &Expr) -> Result<Told<'a>, Fail>
     ensures premises { Passes result (spec.copied env.now is_list (spec.judged names.now inner.now)) }
-    ensures ty { IfOk result (λ t. t ≡ Some ty.Int) }
+    ensures ty { IfOk result (λ t. told t ≡ Some ty.Int) }
 {
     operand(alloc, names, env, inner, Use::Copies, Asked::List)?;
-    Ok(Some(Ty::Int))
+    Ok(Told::Made(Ty::Int))
 }
 
 #[cycle(expr)]
 #[tactic(auto, using(enc_premises::proofs::Passing::passing))]
-fn is_null(alloc: Global, names: &Names, env: &Scope, inner: &Expr) -> Result<Option<Ty>, Fail>
+fn is_null<'a>(alloc: Global, names: &Names, env: &'a Scope, inner: &Expr) -> Result<Told<'a>, Fail>
     ensures premises { Passes result (spec.operand env.now Looks can_be_null (spec.judged names.now inner.now)) }
-    ensures ty { IfOk result (λ t. t ≡ Some ty.Bool) }
+    ensures ty { IfOk result (λ t. told t ≡ Some ty.Bool) }
 {
     operand(alloc, names, env, inner, Use::Looks, Asked::Null)?;
-    Ok(Some(Ty::Bool))
+    Ok(Told::Made(Ty::Bool))
 }
 
 /// The variables after an expression in a consuming place: where it is a variable of a linear type, that
@@ -146,7 +149,7 @@ pub fn consumed(
     ensures after { OnOk result (env.new ≡ spec.consumes env.old (spec.judged names.now expr.now).name) }
     ensures err { OnErr result (env.new ≡ env.old) }
 {
-    let ty = expr_type(alloc, names, env, expr, Use::Consumes)?;
+    let ty = owned(alloc, names, env, expr, Use::Consumes)?;
     consume(env, expr);
     Ok(ty)
 }
@@ -160,6 +163,22 @@ pub fn typed(alloc: Global, names: &Names, env: &Env, expr: &Expr) -> Result<Ty,
     ensures tells { Tells result (spec.expr_premises names.now env.now Copies expr.now) }
     ensures accepts { (t : Value) → IsTyped names.now env.now expr.now Copies t env.now → MemoryOnly result }
 {
-    let ty = expr_type(alloc, names, env.scope(), expr, Use::Copies)?;
+    let ty = owned(alloc, names, env.scope(), expr, Use::Copies)?;
     Ok(ty.unwrap())
+}
+
+/// The type that `expr_type` tells, as one of its own.
+#[tactic(auto, using(crate::proofs::Memory::out_of_memory))]
+fn owned(
+    alloc: Global,
+    names: &Names,
+    env: &Scope,
+    expr: &Expr,
+    place: Use,
+) -> Result<Option<Ty>, Fail>
+    ensures premises { Passes result (spec.expr_premises names.now env.now place expr.now) }
+    ensures ty { IfOk result (λ t. t ≡ spec.expr_type names.now env.now expr.now) }
+{
+    let told = expr_type(alloc, names, env, expr, place)?;
+    Ok(told.into_ty(alloc)?)
 }

@@ -5,9 +5,11 @@ ghost use Rattle.enc_modes.specs.declared.ty.Ty.TheVariants as ty;
 ghost use Rattle.enc_premises.specs.Premises.{each, ◌⨾◌};
 ghost use Rattle.enc_premises.specs.Passing.{Passes};
 ghost use Rattle.enc_exprs.specs.Types.{is_list, is_int, like, items as items_of};
+ghost use Rattle.enc_exprs.specs.Told.{told};
 ghost use Rattle.enc_exprs.specs.Exprs as spec;
 
 use crate::operands::{Asked, matching, operand};
+use crate::told::Told;
 use crate::types::items;
 use crate::uses::Use;
 use enc_ast::{Boxed, Expr, Fail};
@@ -19,21 +21,21 @@ use std::alloc::{AllocError, Global};
 /// The type of a list of these elements.
 #[cycle(expr)]
 #[tactic(auto, using(enc_premises::proofs::Passing::passing, crate::proofs::Memory::out_of_memory, crate::proofs::Elements::list_none))]
-pub fn list(
+pub fn list<'a>(
     alloc: Global,
     names: &Names,
-    env: &Scope,
+    env: &'a Scope,
     elements: &[Expr],
-) -> Result<Option<Ty>, Fail>
+) -> Result<Told<'a>, Fail>
     ensures premises { Passes result (spec.elements env.now (map (spec.judged names.now) elements.now)) }
-    ensures ty { IfOk result (λ t. t ≡ spec.elements_type env.now (map (spec.judged names.now) elements.now)) }
+    ensures ty { IfOk result (λ t. told t ≡ spec.elements_type env.now (map (spec.judged names.now) elements.now)) }
 {
     match elements {
-        [] => Ok(list_of(alloc, Some(Ty::Unit))?),
+        [] => Ok(Told::made(list_of(alloc, Some(Ty::Unit))?)),
         [first, others @ ..] => {
             let ty = operand(alloc, names, env, first, Use::Copies, Asked::Shareable)?;
-            all_match(alloc, names, env, others, ty.as_ref())?;
-            Ok(list_of(alloc, ty)?)
+            all_match(alloc, names, env, others, ty.ty())?;
+            Ok(Told::made(list_of(alloc, ty.into_ty(alloc)?)?))
         }
     }
 }
@@ -58,15 +60,15 @@ fn all_match(
 /// The type of an element of a list at a number.
 #[cycle(expr)]
 #[tactic(auto, using(enc_premises::proofs::Passing::passing))]
-pub fn at(
+pub fn at<'a>(
     alloc: Global,
     names: &Names,
-    env: &Scope,
+    env: &'a Scope,
     list: &Expr,
     number: &Expr,
-) -> Result<Option<Ty>, Fail>
+) -> Result<Told<'a>, Fail>
     ensures premises { Passes result (spec.copied env.now is_list (spec.judged names.now list.now) ⨾ spec.copied env.now is_int (spec.judged names.now number.now)) }
-    ensures ty { IfOk result (λ t. t ≡ items_of (spec.expr_type names.now env.now list.now)) }
+    ensures ty { IfOk result (λ t. told t ≡ items_of (spec.expr_type names.now env.now list.now)) }
 {
     let ty = operand(alloc, names, env, list, Use::Copies, Asked::List)?;
     operand(alloc, names, env, number, Use::Copies, Asked::Int)?;
@@ -76,18 +78,18 @@ pub fn at(
 /// The type of a list with one more element.
 #[cycle(expr)]
 #[tactic(auto, using(enc_premises::proofs::Passing::passing))]
-pub fn append(
+pub fn append<'a>(
     alloc: Global,
     names: &Names,
-    env: &Scope,
+    env: &'a Scope,
     list: &Expr,
     element: &Expr,
-) -> Result<Option<Ty>, Fail>
+) -> Result<Told<'a>, Fail>
     ensures premises { Passes result (spec.copied env.now is_list (spec.judged names.now list.now) ⨾ spec.copied env.now (like (items_of (spec.expr_type names.now env.now list.now))) (spec.judged names.now element.now)) }
-    ensures ty { IfOk result (λ t. t ≡ spec.expr_type names.now env.now list.now) }
+    ensures ty { IfOk result (λ t. told t ≡ spec.expr_type names.now env.now list.now) }
 {
     let ty = operand(alloc, names, env, list, Use::Copies, Asked::List)?;
-    matching(alloc, names, env, element, items(ty.as_ref()))?;
+    matching(alloc, names, env, element, items(ty.ty()))?;
     Ok(ty)
 }
 
@@ -102,11 +104,12 @@ pub fn list_of(alloc: Global, item: Option<Ty>) -> Result<Option<Ty>, AllocError
 }
 
 #[tactic(auto, unfolding(crate::specs::Types::item_of))]
-fn into_item(list: Option<Ty>) -> Option<Ty>
-    ensures { result ≡ items_of list }
+fn into_item<'a>(list: Told<'a>) -> Told<'a>
+    ensures { told result ≡ items_of (told list.entry) }
 {
     match list {
-        Some(Ty::List(item)) => Some(item.into_inner()),
-        _ => None,
+        Told::Seen(Ty::List(item)) => Told::Seen(item.get()),
+        Told::Made(Ty::List(item)) => Told::Made(item.into_inner()),
+        _ => Told::Unknown,
     }
 }

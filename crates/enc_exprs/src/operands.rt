@@ -4,9 +4,11 @@ ghost use Rattle.std.specs.Option.{option_copied};
 ghost use Rattle.enc_premises.specs.Premises.{if_known};
 ghost use Rattle.enc_premises.specs.Passing.{Passes};
 ghost use Rattle.enc_exprs.specs.Types.{asks, is_known_as as known_as, is_plain as is_plain_type, like as is_like};
+ghost use Rattle.enc_exprs.specs.Told.{told};
 ghost use Rattle.enc_exprs.specs.Exprs as spec;
 
 use crate::exprs::expr_type;
+use crate::told::Told;
 use crate::types::{can_be_null, is_bool, is_int, is_plain, item_of, like};
 use crate::uses::Use;
 use enc_ast::{Expr, Fail, Operator, Rule};
@@ -76,53 +78,53 @@ fn matches_first(first: Option<&Ty>, ty: Option<&Ty>) -> bool
 /// The type of an operand of which something is asked.
 #[cycle(expr)]
 #[tactic(auto, using(enc_premises::proofs::Passing::passing, crate::proofs::Meaning::spans))]
-pub fn operand(
+pub fn operand<'a>(
     alloc: Global,
     names: &Names,
-    env: &Scope,
+    env: &'a Scope,
     expr: &Expr,
     place: Use,
     asked: Asked,
-) -> Result<Option<Ty>, Fail>
+) -> Result<Told<'a>, Fail>
     ensures premises { Passes result (spec.operand env.now place (asks asked) (spec.judged names.now expr.now)) }
-    ensures ty { IfOk result (λ t. t ≡ spec.expr_type names.now env.now expr.now) }
+    ensures ty { IfOk result (λ t. told t ≡ spec.expr_type names.now env.now expr.now) }
 {
     let ty = expr_type(alloc, names, env, expr, place)?;
-    demand(Rule::EType, expr.span, meets(asked, ty.as_ref()))?;
+    demand(Rule::EType, expr.span, meets(asked, ty.ty()))?;
     Ok(ty)
 }
 
 /// The type of an operand that is to be of the same type as an earlier one.
 #[cycle(expr)]
 #[tactic(auto, using(enc_premises::proofs::Passing::passing, crate::proofs::Meaning::spans))]
-pub fn matching(
+pub fn matching<'a>(
     alloc: Global,
     names: &Names,
-    env: &Scope,
+    env: &'a Scope,
     expr: &Expr,
     first: Option<&Ty>,
-) -> Result<Option<Ty>, Fail>
+) -> Result<Told<'a>, Fail>
     ensures premises { Passes result (spec.copied env.now (is_like (option_copied first.entry)) (spec.judged names.now expr.now)) }
-    ensures ty { IfOk result (λ t. t ≡ spec.expr_type names.now env.now expr.now) }
+    ensures ty { IfOk result (λ t. told t ≡ spec.expr_type names.now env.now expr.now) }
 {
     let ty = expr_type(alloc, names, env, expr, Use::Copies)?;
-    demand(Rule::EType, expr.span, matches_first(first, ty.as_ref()))?;
+    demand(Rule::EType, expr.span, matches_first(first, ty.ty()))?;
     Ok(ty)
 }
 
 /// The type of an operator's result.
 #[cycle(expr)]
 #[tactic(auto, using(enc_premises::proofs::Passing::passing))]
-pub fn binary(
+pub fn binary<'a>(
     alloc: Global,
     names: &Names,
-    env: &Scope,
+    env: &'a Scope,
     operator: Operator,
     left: &Expr,
     right: &Expr,
-) -> Result<Option<Ty>, Fail>
+) -> Result<Told<'a>, Fail>
     ensures premises { Passes result (spec.binary operator env.now (spec.judged names.now left.now) (spec.judged names.now right.now)) }
-    ensures ty { IfOk result (λ t. t ≡ Some (spec.binary_type operator)) }
+    ensures ty { IfOk result (λ t. told t ≡ Some (spec.binary_type operator)) }
 {
     match operator {
         Operator::Or | Operator::And => two(alloc, names, env, left, right, Asked::Bool)?,
@@ -137,7 +139,7 @@ pub fn binary(
         | Operator::Divide
         | Operator::Remainder => two(alloc, names, env, left, right, Asked::Int)?,
     }
-    Ok(Some(binary_type(operator)))
+    Ok(Told::Made(binary_type(operator)))
 }
 
 #[cycle(expr)]
@@ -163,7 +165,7 @@ fn alike(alloc: Global, names: &Names, env: &Scope, left: &Expr, right: &Expr) -
     ensures { Passes result (spec.alike env.now is_plain_type (spec.judged names.now left.now) (spec.judged names.now right.now)) }
 {
     let ty = operand(alloc, names, env, left, Use::Copies, Asked::Plain)?;
-    matching(alloc, names, env, right, ty.as_ref())?;
+    matching(alloc, names, env, right, ty.ty())?;
     Ok(())
 }
 

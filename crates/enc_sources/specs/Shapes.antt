@@ -1,10 +1,9 @@
 -- What the shapes of sources ask of types, and what they make of them.
-use Rattle.std.specs.Prelude.{Bool, true, false, not, ◌&&◌, cond, Option, Some, None, is_some, option_map}
+use Rattle.std.specs.Prelude.{Bool, true, false, not, ◌&&◌, cond, Option, Some, None, is_some}
 use Rattle.enc_modes.specs.declared.ty.Ty.{Ty}
 use Rattle.enc_modes.specs.declared.ty.Ty.TheVariants as ty
 use Rattle.enc_modes.specs.Modes.{is_linear, is_shareable}
 use Rattle.enc_premises.specs.Premises.{if_known}
-use Rattle.enc_types.specs.Written.{local_of}
 use Rattle.enc_exprs.specs.Types.{item_of}
 use Rattle.enc_rules.specs.Parts.{future_of, tree_of, tree_of_trees, agree}
 use Rattle.enc_sources.specs.declared.shapes.Part.{Part}
@@ -28,7 +27,6 @@ part_by part.Future = future_of
 part_by part.Item = item_of
 part_by part.Tree = tree_of
 part_by part.TreeOfTrees = tree_of_trees
-part_by part.Local = λ t. option_map ty.Bestowed (local_of t)
 
 -- what is made of it
 abbrev pub made_by : Made → Ty → Ty

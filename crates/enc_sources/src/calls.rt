@@ -13,7 +13,7 @@ ghost use Rattle.enc_sources.specs.Arguments.{wanted};
 
 use crate::parts::{is_cap, is_subordinate, is_target};
 use enc_ast::{Expr, Fail, Receiver, Rule, Span};
-use enc_exprs::{Use, consumed, lend, regain, type_in, variable};
+use enc_exprs::{Use, consume, expr_type, lend, regain, type_in, variable};
 use enc_flow::Scope;
 use enc_modes::{Ty, is_sendable, is_shareable};
 use enc_names::{Signature, Slot, Tables};
@@ -124,7 +124,6 @@ fn param_at(params: &[Slot], at: usize) -> Option<&Slot>
     params.get(at)
 }
 
-#[tactic(auto, using(enc_premises::proofs::Passing::passing, enc_exprs::proofs::Meaning::spans))]
 fn argument(
     alloc: Global,
     names: &Names,
@@ -135,8 +134,23 @@ fn argument(
     ensures premises { Passes result (operand env.old Consumes (wanted (option_copied param.entry)) (judged names.now arg.now)) }
     ensures after { OnOk result (env.new ≡ consumes env.old (judged names.now arg.now).name) }
 {
-    let ty = consumed(alloc, names, env, arg)?;
-    demand(Rule::EType, arg.span, fits(param, ty.as_ref()))
+    ask_argument(alloc, names, env, param, arg)?;
+    consume(env, arg);
+    Ok(())
+}
+
+#[tactic(auto, using(enc_premises::proofs::Passing::passing, enc_exprs::proofs::Meaning::spans))]
+fn ask_argument(
+    alloc: Global,
+    names: &Names,
+    env: &Scope,
+    param: Option<&Slot>,
+    arg: &Expr,
+) -> Result<(), Fail>
+    ensures { Passes result (operand env.now Consumes (wanted (option_copied param.entry)) (judged names.now arg.now)) }
+{
+    let ty = expr_type(alloc, names, env, arg, Use::Consumes)?;
+    demand(Rule::EType, arg.span, fits(param, ty.ty()))
 }
 
 fn fits(param: Option<&Slot>, ty: Option<&Ty>) -> bool

@@ -44,3 +44,18 @@ pub struct Outcome {
     pub more: Demand,
     pub ty: Option<Ty>,
 }
+
+impl Outcome {
+    /// Its own rule alone is asked of the statement.
+    pub fn asking(rule: Rule, holds: bool, ty: Option<Ty>) -> Outcome
+        ensures own { result.own ≡ (rule, holds) }
+        ensures more { result.more ≡ free }
+        ensures ty { result.ty ≡ ty }
+    {
+        Outcome {
+            own: Demand { rule, holds },
+            more: Demand::free(),
+            ty,
+        }
+    }
+}

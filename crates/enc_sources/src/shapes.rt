@@ -2,13 +2,12 @@
 ghost use Rattle.std.specs.Prelude.{◌≡◌, IfOk, is_some, option_and_then, option_map};
 ghost use Rattle.std.specs.Option.{option_copied};
 ghost use Rattle.enc_premises.specs.Premises.{if_known};
-ghost use Rattle.enc_exprs.specs.Types.{item_of};
-ghost use Rattle.enc_rules.specs.Parts as parts;
 ghost use Rattle.enc_sources.specs.Shapes.{made_by, part_by, shared as shared_type};
 
+use crate::parts::{future_of, tree_of};
 use enc_ast::{Boxed, Rule};
+use enc_exprs::item_of;
 use enc_modes::{Ty, is_shareable};
-use enc_types::local_of;
 use std::alloc::{AllocError, Global};
 
 /// The part of an operand's type that a source is about.
@@ -24,8 +23,6 @@ pub enum Part {
     Tree,
     /// The values of the trees in a tree.
     TreeOfTrees,
-    /// A local trait, as other actors see it.
-    Local,
 }
 
 /// What a source makes of a part.
@@ -107,15 +104,10 @@ pub const EXTRACT: Shape = Shape {
     made: Made::List,
 };
 
-pub const BESTOW: Shape = Shape {
-    rule: Rule::SBestow,
-    part: Part::Local,
-    made: Made::Same,
-};
-
 /// Whether a type has the part, as far as it is known, and the part.
-pub fn inner_of(part: Part, ty: Option<Ty>) -> (bool, Option<Ty>)
-    ensures { result ≡ (if_known (λ t. is_some (part_by part t)) ty, option_and_then (part_by part) ty) }
+pub fn inner_of(part: Part, ty: Option<&Ty>) -> (bool, Option<&Ty>)
+    ensures whether { result.0 ≡ if_known (λ t. is_some (part_by part t)) (option_copied ty.entry) }
+    ensures part { option_copied result.1 ≡ option_and_then (part_by part) (option_copied ty.entry) }
 {
     match ty {
         None => (true, None),
@@ -126,76 +118,36 @@ pub fn inner_of(part: Part, ty: Option<Ty>) -> (bool, Option<Ty>)
     }
 }
 
-fn part_of(part: Part, ty: Ty) -> Option<Ty>
-    ensures { result ≡ part_by part ty }
+fn part_of(part: Part, ty: &Ty) -> Option<&Ty>
+    ensures { option_copied result ≡ part_by part ty.now }
 {
     match part {
         Part::Shared => shared(ty),
-        Part::Future => future(ty),
-        Part::Item => item(ty),
-        Part::Tree => tree(ty),
-        Part::TreeOfTrees => tree(tree(ty)?),
-        Part::Local => local_of(&ty).map(Ty::Bestowed),
+        Part::Future => future_of(ty),
+        Part::Item => item_of(ty),
+        Part::Tree => tree_of(ty),
+        Part::TreeOfTrees => tree_of(tree_of(ty)?),
     }
 }
 
-fn shared(ty: Ty) -> Option<Ty>
-    ensures { result ≡ shared_type ty }
+fn shared(ty: &Ty) -> Option<&Ty>
+    ensures { option_copied result ≡ shared_type ty.now }
 {
-    if is_shareable(&ty) { Some(ty) } else { None }
+    if is_shareable(ty) { Some(ty) } else { None }
 }
 
-#[tactic(auto, unfolding(enc_rules::specs::Parts::future_of))]
-fn future(ty: Ty) -> Option<Ty>
-    ensures { result ≡ parts.future_of ty }
-{
-    match ty {
-        Ty::Fut(value) => Some(value.into_inner()),
-        _ => None,
-    }
-}
-
-#[tactic(auto, unfolding(enc_exprs::specs::Types::item_of))]
-fn item(ty: Ty) -> Option<Ty>
-    ensures { result ≡ item_of ty }
-{
-    match ty {
-        Ty::List(value) => Some(value.into_inner()),
-        _ => None,
-    }
-}
-
-#[tactic(auto, unfolding(enc_rules::specs::Parts::tree_of))]
-fn tree(ty: Ty) -> Option<Ty>
-    ensures { result ≡ parts.tree_of ty }
-{
-    match ty {
-        Ty::Par(value) => Some(value.into_inner()),
-        _ => None,
-    }
-}
-
-/// What is made of a part, where there is one.
-pub fn make(alloc: Global, made: Made, part: Option<Ty>) -> Result<Option<Ty>, AllocError>
-    ensures { IfOk result (λ t. t ≡ option_map (made_by made) part) }
+/// What is made of a part, where there is one. The part is copied.
+pub fn given(alloc: Global, made: Made, part: Option<&Ty>) -> Result<Option<Ty>, AllocError>
+    ensures { IfOk result (λ t. t ≡ option_map (made_by made) (option_copied part.entry)) }
 {
     let Some(part) = part else {
         return Ok(None);
     };
+    let part = part.copy(alloc)?;
     Ok(Some(match made {
         Made::Same => part,
         Made::Future => Ty::Fut(Boxed::new(alloc, part)?),
         Made::Tree => Ty::Par(Boxed::new(alloc, part)?),
         Made::List => Ty::List(Boxed::new(alloc, part)?),
     }))
-}
-
-/// What is made of a copy of a part, where there is one.
-pub fn given(alloc: Global, made: Made, part: Option<&Ty>) -> Result<Option<Ty>, AllocError>
-    ensures { IfOk result (λ t. t ≡ option_map (made_by made) (option_copied part.entry)) }
-{
-    match part {
-        None => Ok(None),
-        Some(part) => make(alloc, made, Some(part.copy(alloc)?)),
-    }
 }

@@ -22,13 +22,15 @@ use crate::context::Context;
 use crate::outcome::{Demand, Outcome};
 use crate::parts::{agree, tree_of};
 use crate::shapes::{
-    AWAIT, BESTOW, CHAIN, EACH, EXTRACT, GET, JOIN, LIFT, LIFT_FUTURE, Made, PRUNE, SEQ, Shape,
-    given, inner_of, make,
+    AWAIT, CHAIN, EACH, EXTRACT, GET, JOIN, LIFT, LIFT_FUTURE, Made, PRUNE, Part, SEQ, Shape,
+    given, inner_of,
 };
 use enc_ast::{Expr, Fail, Name, Receiver, Rule, SourceForm, Span};
 use enc_exprs::{Use, consumed, expr_type, visible};
 use enc_flow::Scope;
 use enc_modes::{Ty, is_linear};
+use enc_names::Signature;
+use enc_types::local_of;
 use std::alloc::Global;
 
 /// Judges the parts of a source, and answers what else its statement has to keep. It refuses by the first
@@ -77,7 +79,7 @@ pub fn source(
         SourceForm::Join(x) => part(alloc, context, env, JOIN, x),
         SourceForm::Prune(x) => part(alloc, context, env, PRUNE, x),
         SourceForm::Extract(x) => part(alloc, context, env, EXTRACT, x),
-        SourceForm::Bestow(x) => part(alloc, context, env, BESTOW, x),
+        SourceForm::Bestow(x) => bestow(alloc, context, env, x),
     }
 }
 
@@ -110,14 +112,7 @@ fn new(context: &Context<'_>, env: &Scope, class: &Name) -> Result<Outcome, Fail
     ensures ty { IfOk result (λ o. o.ty ≡ (spec.outcome context.now env.now (form.New class.now)).ty) }
 {
     let ty = context.tables.class(class.word.as_str())?;
-    Ok(Outcome {
-        own: Demand {
-            rule: Rule::SNew,
-            holds: ty.is_some(),
-        },
-        more: Demand::free(),
-        ty,
-    })
+    Ok(Outcome::asking(Rule::SNew, ty.is_some(), ty))
 }
 
 #[tactic(auto, using(enc_premises::proofs::Passing::passing, enc_exprs::proofs::Memory::out_of_memory))]
@@ -136,15 +131,9 @@ fn field(
     ensures ty { IfOk result (λ o. o.ty ≡ field_type context.now name.now.word) }
 {
     visible(env, "this", span)?;
-    let ty = context.field_type(name.word.as_str());
-    Ok(Outcome {
-        own: Demand {
-            rule,
-            holds: fits(linear, ty),
-        },
-        more: Demand::free(),
-        ty: given(alloc, Made::Same, ty)?,
-    })
+    let field = context.field_type(name.word.as_str());
+    let ty = given(alloc, Made::Same, field)?;
+    Ok(Outcome::asking(rule, fits(linear, field), ty))
 }
 
 fn fits(linear: bool, field: Option<&Ty>) -> bool
@@ -234,18 +223,29 @@ fn part(
     ensures ty { IfOk result (λ o. o.ty ≡ option_map (made_by shape.made) (option_and_then (part_by shape.part) (exprs.expr_type context.now.tables.names env.now expr.now))) }
 {
     let ty = expr_type(alloc, context.names(), env, expr, Use::Copies)?;
-    let (holds, inner) = inner_of(shape.part, ty);
-    Ok(Outcome {
-        own: Demand {
-            rule: shape.rule,
-            holds,
-        },
-        more: Demand::free(),
-        ty: make(alloc, shape.made, inner)?,
+    let (holds, inner) = inner_of(shape.part, ty.ty());
+    let ty = given(alloc, shape.made, inner)?;
+    Ok(Outcome::asking(shape.rule, holds, ty))
+}
+
+#[tactic(auto, unfolding(enc_rules::specs::Sources::outcome))]
+fn bestow(alloc: Global, context: &Context<'_>, env: &Scope, expr: &Expr) -> Result<Outcome, Fail>
+    ensures premises { Passes result (spec.outcome context.now env.now (form.Bestow expr.now)).parts }
+    ensures own { IfOk result (λ o. o.own ≡ (spec.outcome context.now env.now (form.Bestow expr.now)).own) }
+    ensures more { IfOk result (λ o. o.more ≡ spec.free) }
+    ensures ty { IfOk result (λ o. o.ty ≡ (spec.outcome context.now env.now (form.Bestow expr.now)).ty) }
+{
+    let ty = expr_type(alloc, context.names(), env, expr, Use::Copies)?;
+    Ok(match ty.ty() {
+        None => Outcome::asking(Rule::SBestow, true, None),
+        Some(ty) => {
+            let local = local_of(ty);
+            Outcome::asking(Rule::SBestow, local.is_some(), local.map(Ty::Bestowed))
+        }
     })
 }
 
-#[tactic(auto, using(enc_premises::proofs::Passing::passing))]
+#[tactic(auto, using(enc_premises::proofs::Passing::passing, enc_exprs::proofs::Memory::out_of_memory))]
 fn trees(
     alloc: Global,
     context: &Context<'_>,
@@ -261,14 +261,8 @@ fn trees(
     let names = context.names();
     let ty = expr_type(alloc, names, env, left, Use::Copies)?;
     let other = expr_type(alloc, names, env, right, Use::Copies)?;
-    Ok(Outcome {
-        own: Demand {
-            rule: Rule::SPart,
-            holds: both_trees(ty.as_ref(), other.as_ref()),
-        },
-        more: Demand::free(),
-        ty,
-    })
+    let holds = both_trees(ty.ty(), other.ty());
+    Ok(Outcome::asking(Rule::SPart, holds, ty.into_ty(alloc)?))
 }
 
 fn both_trees(left: Option<&Ty>, right: Option<&Ty>) -> bool
@@ -302,18 +296,30 @@ fn applied(
     ensures ty { IfOk result (λ o. o.ty ≡ option_map (made_by shape.made) (calls.result_of (function_of context.now.tables name.now.word))) }
     ensures after { OnOk result (env.new ≡ calls.after_args context.now.tables.names env.old args.now) }
 {
-    let ty = expr_type(alloc, context.names(), env, expr, Use::Copies)?;
-    let (holds, inner) = inner_of(shape.part, ty);
     let function = context.function(name.word.as_str());
+    let holds = may_apply(alloc, context, env, shape.part, expr, function, args.len())?;
     arguments(alloc, context.names(), env, further(function), args)?;
-    Ok(Outcome {
-        own: Demand {
-            rule: shape.rule,
-            holds: holds && applies(function, args.len(), inner.as_ref()),
-        },
-        more: Demand::free(),
-        ty: given(alloc, shape.made, result_of(function))?,
-    })
+    let ty = given(alloc, shape.made, result_of(function))?;
+    Ok(Outcome::asking(shape.rule, holds, ty))
+}
+
+/// Whether the operand's type has the part, as far as it is known, and the function can be applied to the
+/// part and to so many further arguments.
+fn may_apply(
+    alloc: Global,
+    context: &Context<'_>,
+    env: &Scope,
+    part: Part,
+    expr: &Expr,
+    function: Option<&Signature>,
+    further: usize,
+) -> Result<bool, Fail>
+    ensures premises { Passes result (exprs.expr_premises context.now.tables.names env.now Copies expr.now) }
+    ensures holds { IfOk result (λ holds. holds ≡ (if_known (λ t. is_some (part_by part t)) (exprs.expr_type context.now.tables.names env.now expr.now) && calls.applies (option_copied function.entry) further (option_and_then (part_by part) (exprs.expr_type context.now.tables.names env.now expr.now)))) }
+{
+    let ty = expr_type(alloc, context.names(), env, expr, Use::Copies)?;
+    let (holds, inner) = inner_of(part, ty.ty());
+    Ok(holds && applies(function, further, inner))
 }
 
 /// Whether a source may not stand inside an atomic block: where the actor would wait, and calls.

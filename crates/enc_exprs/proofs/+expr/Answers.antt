@@ -32,10 +32,10 @@ lists::all_match-returns t c = element_end c.args.names.now c.args.env.now (opti
 pub lists::list-returns-in_err-all_match-in-len1-up-clause-premises : goal.lists::list-returns-in_err-all_match-in-len1-up-clause-premises
 lists::list-returns-in_err-all_match-in-len1-up-clause-premises t c =
     let p = err_from_is_err_and c.from_residual-in_err-all_match-in-len1-up.result c.from_residual-in_err-all_match-in-len1-up.ensures.1 in
-    let q = rw (c.as_ref.ensures.value, c.in_ok-ty-in-len1-up.ensures.ty) at c.in_err-all_match-in-len1-up.ensures in
+    let q = rw (c.ty.ensures, c.in_ok-ty-in-len1-up.ensures.ty) at c.in_err-all_match-in-len1-up.ensures in
     rw (p.1, p.2) (list_err c.args.names.now c.args.env.now c.args.elements.now c.first-item.result c.in-len1-up.len_at_least c.first-item.is _ c.in_ok-ty-in-len1-up.ensures.premises q)
 
 pub lists::list-returns-in_ok-list_of-in-len1-up-clause-premises : goal.lists::list-returns-in_ok-list_of-in-len1-up-clause-premises
 lists::list-returns-in_ok-list_of-in-len1-up-clause-premises t c =
-    let q = rw (c.as_ref.ensures.value, c.in_ok-ty-in-len1-up.ensures.ty) at c.in_ok-all_match-in-len1-up.ensures in
+    let q = rw (c.ty.ensures, c.in_ok-ty-in-len1-up.ensures.ty) at c.in_ok-all_match-in-len1-up.ensures in
     list_ok c.args.names.now c.args.env.now c.args.elements.now c.first-item.result c.in-len1-up.len_at_least c.first-item.is c.in_ok-ty-in-len1-up.ensures.premises q
