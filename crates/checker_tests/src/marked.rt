@@ -1,5 +1,5 @@
 // Texts in which a part is marked.
-ghost use Rattle.std.specs.Prelude.{◌≡◌, ◌++◌, IfOk, string_bytes};
+ghost use Rattle.std.specs.Prelude.{◌≡◌, ◌++◌, length, min, IfOk, string_bytes};
 
 use enc_ast::Span;
 use std::alloc::{AllocError, Global};
@@ -39,6 +39,8 @@ pub fn unmarked(alloc: Global, row: &str) -> Result<Option<Marked>, AllocError> 
 }
 
 /// How many bytes a text has, or the greatest number where it has more.
-pub fn count(text: &str) -> u32 {
+pub fn count(text: &str) -> u32
+    ensures { result ≡ min (length text.now) 4294967295 }
+{
     u32::try_from(text.len()).unwrap_or(u32::MAX)
 }

@@ -18,13 +18,17 @@ fn linear(number: u32) -> Alt {
 fn cap(alloc: Global, text: &str) -> Result<Cap, AllocError> {
     let mut groups = Row::new(alloc);
     for word in text.split(' ') {
-        let mut group = Row::new(alloc);
-        for digit in word.bytes() {
-            group.push(linear(u32::from(digit.saturating_sub(b'0'))))?;
-        }
-        groups.push(group)?;
+        groups.push(group(alloc, word)?)?;
     }
     Ok(groups)
+}
+
+fn group(alloc: Global, digits: &str) -> Result<Row<Alt>, AllocError> {
+    let mut group = Row::new(alloc);
+    for digit in digits.bytes() {
+        group.push(linear(u32::from(digit.saturating_sub(b'0'))))?;
+    }
+    Ok(group)
 }
 
 /// The only group of a type of one trait.

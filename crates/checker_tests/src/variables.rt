@@ -83,12 +83,36 @@ fn the_newest_of_a_name_is_found(rt: HostRuntime) -> Result<(), Fail> {
 fn a_scope_has_variables_without_types(rt: HostRuntime) -> Result<(), Fail> {
     let alloc = rt.alloc();
     let mut scope = Scope::new(alloc);
+    assert!(rt; scope.is_empty());
     let known = scope.declare(Word::copy_of(alloc, "k")?, Ty::Int)?;
     let unknown = scope.declare_unknown(Word::copy_of(alloc, "z")?)?;
     assert!(rt; matches!(scope.known(known), Some(Ty::Int)));
     assert!(rt; scope.known(unknown).is_none());
     assert!(rt; scope.take(unknown));
     assert!(rt; !scope.is_moved(unknown));
+    assert_eq!(rt; scope.find("z"), Some(1));
+    assert_eq!(rt; scope.len(), 2);
+    scope.cut(1);
+    assert_eq!(rt; scope.find("z"), None);
+    Ok(())
+}
+
+#[test]
+fn scopes_share_variables_and_no_moves(rt: HostRuntime) -> Result<(), Fail> {
+    let env = three(rt.alloc())?;
+    let mut left = env.scope().copy()?;
+    let right = left.copy()?;
+    let Some(x) = left.find("x") else {
+        panic!(rt; "a variable")
+    };
+    assert!(rt; left.take(x));
+    assert!(rt; left.is_moved(x));
+    assert!(rt; !left.same_moves(&right));
+    left.give(x);
+    assert!(rt; left.same_moves(&right));
+    left.take(x);
+    left.merge(&right);
+    assert!(rt; left.is_moved(x));
     Ok(())
 }
 

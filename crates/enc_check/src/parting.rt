@@ -32,13 +32,13 @@ pub fn split(
     ensures after { OnOk result (env.new ≡ spec.split_after context.now env.old whole.now left.entry.0.now left.entry.1.now right.entry.0.now right.entry.1.now) }
 {
     let word = whole.word.as_str();
-    variable(env, Use::Consumes, false, word, whole.span)?;
+    let whole_ty = variable(env, Use::Consumes, false, word, whole.span)?;
     let (left, left_text) = left;
     let (right, right_text) = right;
     let left_ty = context.tables.ty(left_text)?;
     let right_ty = context.tables.ty(right_text)?;
     demand(Rule::SLet, span, are_free(env, left, right))?;
-    let fits = split_fits(type_in(env, word), left_ty.as_ref(), right_ty.as_ref());
+    let fits = split_fits(whole_ty, left_ty.as_ref(), right_ty.as_ref());
     demand(Rule::SSplit, span, fits)?;
     lend(env, word);
     declare(env, left, left_ty)?;
@@ -71,9 +71,9 @@ pub fn choose(
     ensures after { OnOk result (env.new ≡ spec.choose_after context.now env.old whole.now wanted.now name.now) }
 {
     let word = whole.word.as_str();
-    variable(env, Use::Consumes, false, word, whole.span)?;
+    let whole_ty = variable(env, Use::Consumes, false, word, whole.span)?;
     let alt = context.tables.trait_named(wanted.word.as_str());
-    let (ty, fits) = choice(alloc, type_in(env, word), alt)?;
+    let (ty, fits) = choice(alloc, whole_ty, alt)?;
     demand(Rule::SLet, span, is_free(env, name))?;
     demand(Rule::SChoose, span, fits)?;
     lend(env, word);

@@ -146,8 +146,8 @@ pub fn call_method(
     ensures premises { Passes result (spec.call_premises context.now env.old to.now name.now args.now span) }
     ensures after { OnOk result (env.new ≡ (sources.call context.now env.old to.now name.now args.now).after) }
 {
-    let outcome = call(alloc, context, env, to, name, args.as_slice())?;
-    ask_three(span, outcome.own, outcome.more, outside(context))
+    let asked = call(alloc, context, env, to, name, args.as_slice())?;
+    ask_three(span, asked.own, asked.more, outside(context))
 }
 
 /// A message whose result nobody waits for.
@@ -164,9 +164,9 @@ pub fn send_message(
     ensures premises { Passes result (spec.send_premises context.now env.old to.now name.now args.now span) }
     ensures after { OnOk result (env.new ≡ (sources.send context.now env.old to.now name.now args.now).after) }
 {
-    let outcome = send(alloc, context, env, to, name, args.as_slice())?;
-    ask(span, outcome.own)?;
-    ask(span, outcome.more)
+    let asked = send(alloc, context, env, to, name, args.as_slice())?;
+    ask(span, asked.own)?;
+    ask(span, asked.more)
 }
 
 /// The result of the body.

@@ -5,7 +5,7 @@ use Rattle.enc_ast.specs.declared.rules.Span.{Span}
 use Rattle.enc_modes.specs.declared.ty.Ty.{Ty}
 use Rattle.enc_modes.specs.Modes.{is_linear}
 use Rattle.enc_premises.specs.First.{AllHold, one, join}
-use Rattle.enc_flow.specs.declared.scope.Var.{Var}
+use Rattle.enc_flow.specs.Vars.{Var}
 use Rattle.enc_flow.specs.Env.{Env, number_of, at_number, find, ty_of, moved_of, usable, usable_of, linear, marked_at}
 use Rattle.enc_exprs.specs.declared.uses.Use.{Use}
 use Rattle.enc_exprs.specs.declared.uses.Use.TheVariants.{Copies, Consumes, Looks}

@@ -16,7 +16,7 @@ use crate::lists::{append, at, list};
 use crate::nothing::{empty, nil, null};
 use crate::operands::{Asked, binary, operand};
 use crate::told::Told;
-use crate::uses::{Use, lend, type_in, variable};
+use crate::uses::{Use, lend, variable};
 use enc_ast::{Expr, ExprForm, Fail, Span};
 use enc_flow::{Env, Scope};
 use enc_modes::Ty;
@@ -74,8 +74,7 @@ fn named<'a>(
     ensures premises { Passes result (variable_premises env.now place mine name.now span) }
     ensures ty { IfOk result (λ t. told t ≡ ty_of (find env.now name.now)) }
 {
-    variable(env, place, mine, name, span)?;
-    Ok(Told::seen(type_in(env, name)))
+    Ok(Told::seen(variable(env, place, mine, name, span)?))
 }
 
 #[cycle(expr)]

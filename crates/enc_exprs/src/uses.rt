@@ -1,8 +1,8 @@
 // Variables in their places.
-ghost use Rattle.std.specs.Prelude.{◌≡◌, ◌<◌, length, IfSome, is_some};
+ghost use Rattle.std.specs.Prelude.{◌≡◌, ◌<◌, length, IfOk, IfSome, is_some};
 ghost use Rattle.std.specs.Option.{option_copied};
 ghost use Rattle.enc_premises.specs.Passing.{Passes};
-ghost use Rattle.enc_flow.specs.Env.{at_number, find, linear as is_linear_known, moved_of, ty_of};
+ghost use Rattle.enc_flow.specs.Env.{at_number, find, linear, moved_of, ty_of};
 ghost use Rattle.enc_exprs.specs.Uses as spec;
 
 use enc_ast::{Fail, Rule, Span};
@@ -21,21 +21,30 @@ pub enum Use {
     Looks,
 }
 
-/// Refuses a variable in a place where there is none of this name, where it was moved, or where it is
-/// linear and the place lets no linear one stand. `mine` says that it is `this`, which is never moved.
-/// It takes no memory.
+/// The type of a variable in a place, or `None` where it isn't known. It refuses the variable where there
+/// is none of this name, where it was moved, or where it is linear and the place lets no linear one stand.
+/// `mine` says that it is `this`, which is never moved. It takes no memory.
 #[tactic(auto, using(enc_premises::proofs::Passing::passing, crate::proofs::Variables::variables), unfolding(crate::specs::Uses::variable, enc_flow::specs::Env::find))]
-pub fn variable(env: &Scope, place: Use, mine: bool, name: &str, span: Span) -> Result<(), Fail>
-    ensures { Passes result (spec.variable env.now place mine name.now span) }
+pub fn variable<'a>(
+    env: &'a Scope,
+    place: Use,
+    mine: bool,
+    name: &str,
+    span: Span,
+) -> Result<Option<&'a Ty>, Fail>
+    ensures premises { Passes result (spec.variable env.now place mine name.now span) }
+    ensures ty { IfOk result (λ t. option_copied t ≡ ty_of (find env.now name.now)) }
 {
     let found = env.find(name);
     demand(Rule::EVar, span, found.is_some())?;
     demand(Rule::EMoved, span, !is_moved(env, found))?;
+    let ty = type_at(env, found);
     demand(
         Rule::ECopy,
         span,
-        lets_linear(place, mine) || !is_linear_at(env, found),
-    )
+        lets_linear(place, mine) || !is_known_linear(ty),
+    )?;
+    Ok(ty)
 }
 
 /// Refuses a name where there is no variable of this name. It takes no memory.
@@ -73,7 +82,14 @@ pub fn regain(env: &mut Scope, name: &str)
 pub fn type_in<'a>(env: &'a Scope, name: &str) -> Option<&'a Ty>
     ensures { option_copied result ≡ ty_of (find env.now name.now) }
 {
-    match env.find(name) {
+    type_at(env, env.find(name))
+}
+
+fn type_at(env: &Scope, found: Option<u32>) -> Option<&Ty>
+    requires { IfSome found (λ variable. variable < length env.now) }
+    ensures { option_copied result ≡ ty_of (at_number env.now found) }
+{
+    match found {
         Some(variable) => env.known(variable),
         None => None,
     }
@@ -99,15 +115,11 @@ fn is_moved(env: &Scope, found: Option<u32>) -> bool
     }
 }
 
-fn is_linear_at(env: &Scope, found: Option<u32>) -> bool
-    requires { IfSome found (λ variable. variable < length env.now) }
-    ensures { result ≡ is_linear_known (ty_of (at_number env.now found)) }
+fn is_known_linear(ty: Option<&Ty>) -> bool
+    ensures { result ≡ linear (option_copied ty.entry) }
 {
-    match found {
-        Some(variable) => match env.known(variable) {
-            Some(ty) => is_linear(ty),
-            None => false,
-        },
+    match ty {
+        Some(ty) => is_linear(ty),
         None => false,
     }
 }

@@ -2,7 +2,7 @@
 use Rattle.std.proofs.Common.{◌≡◌, ◌<◌, ℕ, zero, suc, Bool, true, false, cond, List, [], ◌∷◌, length, take, Option, Some, None, refl, sym, ap, ◌∙◌, arith, slice_get, slice_set, Bor}
 use Rattle.std.specs.Option.{IsSome, option_copied}
 use Rattle.enc_modes.specs.declared.ty.Ty.{Ty}
-use Rattle.enc_flow.specs.declared.scope.Var.{Var}
+use Rattle.enc_flow.specs.Vars.{Var}
 use Rattle.enc_flow.specs.Env.{Env, number_of, at_number, find, ty_of, linear, marked_var, marked_at, takes, declares, merged}
 use Rattle.enc_flow.specs.Known.{Knows, end, more}
 

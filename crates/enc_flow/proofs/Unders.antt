@@ -4,7 +4,7 @@ use Rattle.std.specs.Str.{bytes_eq}
 use Rattle.std.proofs.lemmas.List.{take-append-drop}
 use Rattle.std.proofs.lemmas.Slice.Eq.{bytes_eq-Decides}
 use Rattle.enc_modes.specs.declared.ty.Ty.{Ty}
-use Rattle.enc_flow.specs.declared.scope.Var.{Var}
+use Rattle.enc_flow.specs.Vars.{Var}
 use Rattle.enc_flow.specs.Env.{Env, or_else, number_from, number_of, at_number, find, ty_of, usable_of, linear, marked_var, marked_at, takes, declares, merged, cut, same_moves}
 use Rattle.enc_flow.specs.Under.{Under, Alike, Grown, AreNew, GrownByNew}
 

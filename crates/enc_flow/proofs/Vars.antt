@@ -1,7 +1,7 @@
 -- One more variable of a list of variables.
 use Rattle.std.proofs.Common.{◌≡◌, ℕ, zero, suc, ◌<◌, ◌≤◌, ◌+◌, ◌-◌, List, [], ◌∷◌, ◌++◌, length, take, drop, Some, None, refl, ap, sym, ◌∙◌, arith, slice_set, slice_index_or, cond, Bool, true, false, ◌||◌, ◌&&◌, not, min, add-one}
 use Rattle.std.specs.Str.{bytes_eq}
-use Rattle.enc_flow.specs.declared.scope.Var.{Var}
+use Rattle.enc_flow.specs.Vars.{Var}
 use Rattle.enc_flow.specs.Env.{Env, or_else, number_from, merged, same_moves}
 
 -- ---- the newest one of a name

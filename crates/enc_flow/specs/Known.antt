@@ -1,7 +1,7 @@
 -- What is known of the types of variables.
 use Rattle.std.specs.Prelude.{◌≡◌, [], ◌∷◌, Some}
 use Rattle.enc_modes.specs.declared.ty.Ty.{Ty}
-use Rattle.enc_flow.specs.declared.scope.Var.{Var}
+use Rattle.enc_flow.specs.Vars.{Var}
 use Rattle.enc_flow.specs.Env.{Env}
 
 -- Each variable has a known type.

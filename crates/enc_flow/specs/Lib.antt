@@ -1,3 +1,4 @@
+pub mod Vars
 pub mod Env
 pub mod Under
 pub mod Known

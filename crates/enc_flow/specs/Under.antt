@@ -1,7 +1,7 @@
 -- The order of environments by what can be used in them, and what it follows from.
 use Rattle.std.specs.Prelude.{◌≡◌, ℕ, List, [], ◌∷◌, Some, None, length, drop}
 use Rattle.enc_modes.specs.declared.ty.Ty.{Ty}
-use Rattle.enc_flow.specs.declared.scope.Var.{Var}
+use Rattle.enc_flow.specs.Vars.{Var}
 use Rattle.enc_flow.specs.Env.{Env, usable, number_of}
 
 -- what can be used in the first can be used in the second, with the same type

@@ -20,7 +20,7 @@ impl Model for Env {
     ghost use Rattle.std.specs.Prelude.{List};
     ghost use Rattle.std.specs.Coded.{codes};
     ghost use Rattle.enc_modes.specs.contracts.ty.Ty as ty;
-    ghost use Rattle.enc_flow.specs.declared.scope.Var.{Var};
+    ghost use Rattle.enc_flow.specs.Vars.{Var};
     ghost use Rattle.enc_flow.specs.Known.{Knows};
 
     ghost Value = { List Var };
@@ -132,7 +132,8 @@ impl Env {
         self.scope.cut(count);
     }
 
-    /// An environment of its own with the same variables, moved or not.
+    /// An environment of its own with the same variables, moved or not, or `AllocError` where memory runs out.
+    /// Words and types are shared and not copied.
     #[tactic(auto, using(crate::proofs::Knowing::knowing))]
     pub fn copy(&self) -> Result<Env, AllocError>
         ensures { IfOk result (λ copied. copied ≡ self.now) }

@@ -7,26 +7,39 @@ use enc_ast::Word;
 use enc_modes::{Ty, is_linear};
 use std::alloc::{AllocError, Global};
 use std::marker::Model;
+use std::rc::Rc;
 
-/// A variable. Where its type is not known, no rule fails because of it.
+/// How a variable was declared. Scopes that are copied from one another share it.
 #[derive(Drop)]
-pub struct Var {
-    pub word: Word,
-    pub ty: Option<Ty>,
-    pub moved: bool,
+struct Declared {
+    word: Word,
+    ty: Option<Ty>,
+}
+
+#[derive(Drop)]
+struct Var {
+    declared: Rc<Declared>,
+    moved: bool,
+}
+
+impl Model for Var {
+    ghost use Rattle.std.specs.Coded.{codes};
+    ghost use Rattle.enc_modes.specs.contracts.ty.Ty as ty;
+    ghost use Rattle.enc_flow.specs.Vars as value;
+
+    ghost Value = { value.Var };
+
+    ghost coded = { Prim.hlevel (codes, ty.the_row.coded) };
+
+    ghost view = { λ var. record { word = var.declared.value.word; ty = var.declared.value.ty; moved = var.moved } };
 }
 
 impl Var {
-    fn copy(&self, alloc: Global) -> Result<Var, AllocError>
+    fn copy(&self) -> Result<Var, AllocError>
         ensures { IfOk result (λ copied. copied ≡ self.now) }
     {
-        let ty = match &self.ty {
-            None => None,
-            Some(ty) => Some(ty.copy(alloc)?),
-        };
         Ok(Var {
-            word: self.word.copy()?,
-            ty,
+            declared: self.declared.clone()?,
             moved: self.moved,
         })
     }
@@ -43,9 +56,9 @@ impl Model for Scope {
     ghost use Rattle.std.specs.Prelude.{List, length, ◌≤◌};
     ghost use Rattle.std.specs.Coded.{codes};
     ghost use Rattle.enc_modes.specs.contracts.ty.Ty as ty;
-    ghost use Rattle.enc_flow.specs.declared.scope.Var.{Var};
+    ghost use Rattle.enc_flow.specs.Vars as value;
 
-    ghost Value = { List Var };
+    ghost Value = { List value.Var };
 
     ghost coded = { Prim.hlevel (codes, ty.the_row.coded) };
 
@@ -108,9 +121,9 @@ impl Scope {
         ensures err { OnErr result (self.new ≡ self.old) }
     {
         let number = self.vars.len();
+        let declared = Rc::new(*self.vars.allocator(), Declared { word, ty })?;
         self.vars.push(Var {
-            word,
-            ty,
+            declared,
             moved: false,
         })?;
         Ok(number as u32)
@@ -126,7 +139,7 @@ impl Scope {
         let mut at = self.vars.len();
         while at > 0 {
             at -= 1;
-            if self.vars[at].word.is(name) {
+            if self.vars[at].declared.word.is(name) {
                 return Some(at as u32);
             }
         }
@@ -138,7 +151,7 @@ impl Scope {
         requires { variable < length self.now }
         ensures { option_copied result ≡ spec.ty_of (slice_get self.now variable) }
     {
-        self.vars[variable as usize].ty.as_ref()
+        self.vars[variable as usize].declared.ty.as_ref()
     }
 
     /// Whether a variable was moved.
@@ -196,13 +209,14 @@ impl Scope {
         self.vars.truncate(count as usize);
     }
 
-    /// A scope of its own with the same variables, moved or not.
+    /// A scope of its own with the same variables, moved or not, or `AllocError` where memory runs out. Words
+    /// and types are shared and not copied.
     pub fn copy(&self) -> Result<Scope, AllocError>
         ensures { IfOk result (λ copied. copied ≡ self.now) }
     {
         let mut vars = Vec::new(*self.vars.allocator());
         for var in &self.vars {
-            vars.push(var.copy(*self.vars.allocator())?)?;
+            vars.push(var.copy()?)?;
         }
         Ok(Scope { vars })
     }

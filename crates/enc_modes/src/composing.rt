@@ -11,7 +11,7 @@ use indexmap::IndexSet;
 use std::alloc::{AllocError, Global};
 
 /// Whether the groups go together: no trait stands in them twice, and of several groups each is a linear
-/// trait or a disjunction.
+/// trait or a disjunction. It takes memory, and answers `AllocError` where that runs out.
 #[tactic(auto, unfolding(crate::specs::Modes::composes))]
 pub fn composes(alloc: Global, cap: &Cap) -> Result<bool, AllocError>
     ensures { IfOk result (λ yes. yes ≡ spec.composes cap.now) }
@@ -20,7 +20,8 @@ pub fn composes(alloc: Global, cap: &Cap) -> Result<bool, AllocError>
     Ok(are_distinct(alloc, &numbers)? && joins(cap))
 }
 
-/// The groups of both in order, or `None` where they aren't both linear or share a trait.
+/// The groups of both in order, or `None` where they aren't both linear or share a trait. Where memory runs
+/// out, it answers `AllocError`.
 #[tactic(auto, unfolding(crate::specs::Modes::pack_of))]
 pub fn pack_of(alloc: Global, left: &Cap, right: &Cap) -> Result<Option<Cap>, AllocError>
     ensures { IfOk result (λ packed. packed ≡ spec.pack_of left.now right.now) }

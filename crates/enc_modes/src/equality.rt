@@ -28,7 +28,7 @@ impl Ty {
         }
     }
 
-    /// A copy of the type.
+    /// A copy of the type, or `AllocError` where memory runs out.
     pub fn copy(&self, alloc: Global) -> Result<Ty, AllocError>
         ensures { IfOk result (λ copied. copied ≡ self.now) }
     {
@@ -47,7 +47,7 @@ impl Ty {
     }
 }
 
-/// A copy of a capability type.
+/// A copy of a capability type, or `AllocError` where memory runs out.
 pub fn copy_cap(alloc: Global, cap: &Cap) -> Result<Cap, AllocError>
     ensures { IfOk result (λ copied. copied ≡ cap.now) }
 {

@@ -8,7 +8,7 @@ use std::alloc::AllocError;
 use std::mem;
 
 /// The groups, and the traits inside each, in the order of their declarations. What stands in one place
-/// stays in the order that it has.
+/// stays in the order that it has. Where memory runs out, it answers `AllocError`, and the groups are lost.
 pub fn in_order(cap: Cap) -> Result<Cap, AllocError>
     ensures { IfOk result (λ sorted. sorted ≡ spec.in_order cap) }
 {

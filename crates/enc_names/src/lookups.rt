@@ -56,7 +56,8 @@ impl Tables {
         &self.names
     }
 
-    /// The type that is written, or `None` where it may not be written.
+    /// The type that is written, or `None` where it may not be written. Where memory runs out, it answers
+    /// `AllocError`.
     pub fn ty(&self, text: &TypeText) -> Result<Option<Ty>, AllocError>
         ensures { IfOk result (λ ty. ty ≡ type_of self.now.names text.now) }
     {
@@ -153,7 +154,7 @@ impl Tables {
     }
 
     /// The type of a new object of the class of this name, or `None` where the name is of no class, or
-    /// of one whose list has a name of no trait.
+    /// of one whose list has a name of no trait. Where memory runs out, it answers `AllocError`.
     #[tactic(auto, unfolding(crate::specs::Lookups::class_named, enc_types::specs::Written::type_named))]
     pub fn class(&self, name: &str) -> Result<Option<Ty>, AllocError>
         ensures { IfOk result (λ ty. ty ≡ spec.class_named self.now.names name.now) }

@@ -57,7 +57,8 @@ impl Model for Members {
 }
 
 impl Members {
-    /// The members of a declaration, by what the names of its program stand for.
+    /// The members of a declaration, by what the names of its program stand for, or `AllocError` where memory
+    /// runs out.
     pub fn of(alloc: Global, names: &Names, decl: &Decl) -> Result<Members, AllocError>
         ensures { IfOk result (λ m. m ≡ members_of names.now decl.now) }
     {

@@ -7,7 +7,7 @@ use Rattle.enc_ast.specs.declared.stmts.Receiver.{Receiver}
 use Rattle.enc_ast.specs.declared.sources.SourceForm.{SourceForm}
 use Rattle.enc_ast.specs.declared.Stmt.{Stmt}
 use Rattle.enc_modes.specs.declared.ty.Ty.{Ty}
-use Rattle.enc_flow.specs.declared.scope.Var.{Var}
+use Rattle.enc_flow.specs.Vars.{Var}
 use Rattle.enc_flow.specs.Env.{Env, or_else, number_from, number_of, at_number, find, ty_of, linear, marked_var, marked_at, takes, declares, merged, cut, same_moves}
 use Rattle.enc_flow.specs.Under.{Under, Alike, Grown, AreNew, GrownByNew}
 use Rattle.enc_flow.proofs.Unders.{grown_then, grown_declares, grown_cut, alike_both, merged_under_left, merged_under_right, same_under, same_over}

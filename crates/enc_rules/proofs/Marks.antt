@@ -1,7 +1,7 @@
 -- Variables keep their types, moved or not.
 use Rattle.std.proofs.Common.{◌≡◌, ℕ, zero, suc, Bool, true, false, cond, List, [], ◌∷◌, Option, Some, None, refl, sym, ap, ◌∙◌, arith, slice_get, slice_set}
 use Rattle.std.specs.Prelude.{bytes_eq}
-use Rattle.enc_flow.specs.declared.scope.Var.{Var}
+use Rattle.enc_flow.specs.Vars.{Var}
 use Rattle.enc_flow.specs.Env.{Env, or_else, number_from, number_of, at_number, find, ty_of, linear, marked_var, marked_at}
 use Rattle.enc_exprs.specs.Uses.{lends, taken_at}
 

@@ -11,7 +11,7 @@ use Rattle.enc_modes.specs.declared.ty.Ty.{Ty}
 use Rattle.enc_modes.specs.declared.ty.Ty.TheVariants as ty
 use Rattle.enc_premises.specs.Premises.{each}
 use Rattle.enc_premises.specs.First.{AllHold, nothing, one, join}
-use Rattle.enc_flow.specs.declared.scope.Var.{Var}
+use Rattle.enc_flow.specs.Vars.{Var}
 use Rattle.enc_flow.specs.Env.{Env, find, ty_of, declares, merged, cut, same_moves}
 use Rattle.enc_types.specs.Words.{every}
 use Rattle.enc_exprs.specs.declared.uses.Use.TheVariants.{Copies, Consumes}

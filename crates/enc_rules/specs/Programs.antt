@@ -11,7 +11,7 @@ use Rattle.enc_modes.specs.declared.ty.Ty.TheVariants as ty
 use Rattle.enc_modes.specs.Equality.{same}
 use Rattle.enc_premises.specs.Premises.{Premises, none, ◌⨾◌, node, each}
 use Rattle.enc_premises.specs.First.{FirstFailure}
-use Rattle.enc_flow.specs.declared.scope.Var.{Var}
+use Rattle.enc_flow.specs.Vars.{Var}
 use Rattle.enc_flow.specs.Env.{Env}
 use Rattle.enc_types.specs.Names.{Names}
 use Rattle.enc_decls.specs.Rules.{table_premises}

@@ -13,7 +13,7 @@ pub use calls::{
     params_of, receiver_type, result_of, sent,
 };
 pub use context::Context;
-pub use outcome::{Demand, Outcome};
+pub use outcome::{Demand, Demands, Outcome};
 pub use parts::{
     agree, cap_of, chosen, future_of, is_cap, is_subordinate, is_target, packed, splits, tree_of,
 };

@@ -59,3 +59,10 @@ impl Outcome {
         }
     }
 }
+
+/// What is asked of a statement that calls or sends.
+#[derive(Clone, Copy)]
+pub struct Demands {
+    pub own: Demand,
+    pub more: Demand,
+}

@@ -19,7 +19,7 @@ use crate::calls::{
     params_of, receiver_type, result_of, sent,
 };
 use crate::context::Context;
-use crate::outcome::{Demand, Outcome};
+use crate::outcome::{Demand, Demands, Outcome};
 use crate::parts::{agree, tree_of};
 use crate::shapes::{
     AWAIT, CHAIN, EACH, EXTRACT, GET, JOIN, LIFT, LIFT_FUTURE, Made, PRUNE, Part, SEQ, Shape,
@@ -58,10 +58,10 @@ pub fn source(
             field(alloc, context, env, Rule::STake, true, *span, name)
         }
         SourceForm::Call(to, method, args) => {
-            call(alloc, context, env, to, method, args.as_slice())
+            called_value(alloc, context, env, to, method, args.as_slice())
         }
         SourceForm::Send(to, method, args) => {
-            send(alloc, context, env, to, method, args.as_slice())
+            sent_value(alloc, context, env, to, method, args.as_slice())
         }
         SourceForm::Get(x) => part(alloc, context, env, GET, x),
         SourceForm::Await(x) => part(alloc, context, env, AWAIT, x),
@@ -145,10 +145,8 @@ fn fits(linear: bool, field: Option<&Ty>) -> bool
     }
 }
 
-/// Judges the receiver and the arguments of a call, and answers what else its statement has to keep. It
-/// refuses by the first premise of the parts that fails. After an error nothing is known of the variables.
-#[tactic(auto, using(enc_premises::proofs::Passing::passing, enc_exprs::proofs::Memory::out_of_memory))]
-pub fn call(
+#[tactic(auto, using(enc_exprs::proofs::Memory::out_of_memory))]
+fn called_value(
     alloc: Global,
     context: &Context<'_>,
     env: &mut Scope,
@@ -162,25 +160,14 @@ pub fn call(
     ensures ty { IfOk result (λ o. o.ty ≡ (spec.call context.now env.old to.now name.now args.now).ty) }
     ensures after { OnOk result (env.new ≡ (spec.call context.now env.old to.now name.now args.now).after) }
 {
-    let ty = receiver_type(env, to);
-    let method = called(context.tables, ty, name.word.as_str());
-    let own = Demand {
-        rule: Rule::SCall,
-        holds: may_call(to, method, args.len(), ty),
-    };
-    let more = Demand {
-        rule: Rule::SInner,
-        holds: may_enter(to, method, ty),
-    };
-    invoke(alloc, context.names(), env, to, params_of(method), args)?;
+    let method = called(context.tables, receiver_type(env, to), name.word.as_str());
     let ty = given(alloc, Made::Same, result_of(method))?;
+    let Demands { own, more } = call(alloc, context, env, to, name, args)?;
     Ok(Outcome { own, more, ty })
 }
 
-/// Judges the receiver and the arguments of a send, and answers what else its statement has to keep. It
-/// refuses by the first premise of the parts that fails. After an error nothing is known of the variables.
-#[tactic(auto, using(enc_premises::proofs::Passing::passing, enc_exprs::proofs::Memory::out_of_memory))]
-pub fn send(
+#[tactic(auto, using(enc_exprs::proofs::Memory::out_of_memory))]
+fn sent_value(
     alloc: Global,
     context: &Context<'_>,
     env: &mut Scope,
@@ -194,6 +181,58 @@ pub fn send(
     ensures ty { IfOk result (λ o. o.ty ≡ (spec.send context.now env.old to.now name.now args.now).ty) }
     ensures after { OnOk result (env.new ≡ (spec.send context.now env.old to.now name.now args.now).after) }
 {
+    let method = sent(context.tables, receiver_type(env, to), name.word.as_str());
+    let ty = given(alloc, Made::Future, result_of(method))?;
+    let Demands { own, more } = send(alloc, context, env, to, name, args)?;
+    Ok(Outcome { own, more, ty })
+}
+
+/// Judges the receiver and the arguments of a call, and answers what else its statement has to keep. It
+/// refuses by the first premise of the parts that fails. After an error nothing is known of the variables.
+#[tactic(auto, using(enc_premises::proofs::Passing::passing))]
+pub fn call(
+    alloc: Global,
+    context: &Context<'_>,
+    env: &mut Scope,
+    to: &Receiver,
+    name: &Name,
+    args: &[Expr],
+) -> Result<Demands, Fail>
+    ensures premises { Passes result (spec.call context.now env.old to.now name.now args.now).parts }
+    ensures own { IfOk result (λ d. d.own ≡ (spec.call context.now env.old to.now name.now args.now).own) }
+    ensures more { IfOk result (λ d. d.more ≡ (spec.call context.now env.old to.now name.now args.now).more) }
+    ensures after { OnOk result (env.new ≡ (spec.call context.now env.old to.now name.now args.now).after) }
+{
+    let ty = receiver_type(env, to);
+    let method = called(context.tables, ty, name.word.as_str());
+    let own = Demand {
+        rule: Rule::SCall,
+        holds: may_call(to, method, args.len(), ty),
+    };
+    let more = Demand {
+        rule: Rule::SInner,
+        holds: may_enter(to, method, ty),
+    };
+    invoke(alloc, context.names(), env, to, params_of(method), args)?;
+    Ok(Demands { own, more })
+}
+
+/// Judges the receiver and the arguments of a send, and answers what else its statement has to keep. It
+/// refuses by the first premise of the parts that fails. After an error nothing is known of the variables.
+#[tactic(auto, using(enc_premises::proofs::Passing::passing))]
+pub fn send(
+    alloc: Global,
+    context: &Context<'_>,
+    env: &mut Scope,
+    to: &Receiver,
+    name: &Name,
+    args: &[Expr],
+) -> Result<Demands, Fail>
+    ensures premises { Passes result (spec.send context.now env.old to.now name.now args.now).parts }
+    ensures own { IfOk result (λ d. d.own ≡ (spec.send context.now env.old to.now name.now args.now).own) }
+    ensures more { IfOk result (λ d. d.more ≡ (spec.send context.now env.old to.now name.now args.now).more) }
+    ensures after { OnOk result (env.new ≡ (spec.send context.now env.old to.now name.now args.now).after) }
+{
     let ty = receiver_type(env, to);
     let method = sent(context.tables, ty, name.word.as_str());
     let own = Demand {
@@ -205,8 +244,7 @@ pub fn send(
         holds: may_travel(method),
     };
     invoke(alloc, context.names(), env, to, params_of(method), args)?;
-    let ty = given(alloc, Made::Future, result_of(method))?;
-    Ok(Outcome { own, more, ty })
+    Ok(Demands { own, more })
 }
 
 #[tactic(auto, using(enc_premises::proofs::Passing::passing, enc_exprs::proofs::Memory::out_of_memory))]

@@ -9,7 +9,7 @@ use Rattle.enc_ast.specs.declared.StmtForm.TheOpen.{StmtForm-F}
 use Rattle.enc_ast.specs.Thin.{is_sum_source, is_free, is_some_items, is_line, is_line_layer, bound_after, bound_after_layer, is_body}
 use Rattle.enc_modes.specs.declared.ty.Ty.TheVariants as ty
 use Rattle.enc_premises.specs.First.{AllHold, nothing, join}
-use Rattle.enc_flow.specs.declared.scope.Var.{Var}
+use Rattle.enc_flow.specs.Vars.{Var}
 use Rattle.enc_flow.specs.Env.{Env, declares}
 use Rattle.enc_types.specs.Bodies.{stmt_form, source_types, exprs_types, body_types}
 use Rattle.enc_exprs.specs.declared.uses.Use.TheVariants.{Consumes}

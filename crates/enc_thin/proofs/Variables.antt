@@ -7,7 +7,7 @@ use Rattle.std.proofs.lemmas.Slice.Eq.{bytes_eq-Decides}
 use Rattle.enc_ast.specs.Keywords.{is_keyword}
 use Rattle.enc_ast.specs.Thin.{is_among, is_free}
 use Rattle.enc_modes.specs.declared.ty.Ty.TheVariants as ty
-use Rattle.enc_flow.specs.declared.scope.Var.{Var}
+use Rattle.enc_flow.specs.Vars.{Var}
 use Rattle.enc_flow.specs.Env.{Env, or_else, number_from, number_of, at_number, find, usable_of, usable, declares}
 use Rattle.enc_exprs.specs.Uses.{this_word}
 
