@@ -36,6 +36,18 @@ fn take(rt: &impl Abort, env: &mut Env, name: &str) -> bool {
     env.take(variable)
 }
 
+fn take_in(scope: &mut Scope, name: &str) {
+    if let Some(variable) = scope.find(name) {
+        scope.take(variable);
+    }
+}
+
+fn give_in(scope: &mut Scope, name: &str) {
+    if let Some(variable) = scope.find(name) {
+        scope.give(variable);
+    }
+}
+
 /// Whether the variable of a name is moved.
 fn is_moved(rt: &impl Abort, env: &Env, name: &str) -> bool {
     let Some(variable) = env.find(name) else {
@@ -101,18 +113,15 @@ fn a_scope_has_variables_without_types(rt: HostRuntime) -> Result<(), Fail> {
 fn scopes_share_variables_and_no_moves(rt: HostRuntime) -> Result<(), Fail> {
     let env = three(rt.alloc())?;
     let mut left = env.scope().copy()?;
-    let right = left.copy()?;
-    let Some(x) = left.find("x") else {
-        panic!(rt; "a variable")
-    };
-    assert!(rt; left.take(x));
-    assert!(rt; left.is_moved(x));
+    let mut right = left.copy()?;
+    take_in(&mut left, "x");
     assert!(rt; !left.same_moves(&right));
-    left.give(x);
+    give_in(&mut left, "x");
     assert!(rt; left.same_moves(&right));
-    left.take(x);
+    take_in(&mut right, "y");
+    assert!(rt; !left.same_moves(&right));
     left.merge(&right);
-    assert!(rt; left.is_moved(x));
+    assert!(rt; left.same_moves(&right));
     Ok(())
 }
 
