@@ -236,6 +236,14 @@ K-NAME class C = (A or B); linear trait A { x: «Nope»; } linear trait B { x: i
 K-NAME class C = (A or B); linear trait A { x: Z; } linear trait B { x: int; } class Z = «Nope»;
 K-NAME read trait R { x: Z; } class Z = «Nope»;
 K-OR class C = «(A or B)»; linear trait A { x: Fut[A]; y: int; } linear trait B { y: bool; }
+K-OR class C = «(A or B)»; linear trait A { x: int; x: bool; } linear trait B { x: int; }
+K-OR class C = «(A or B)»; linear trait A { x: Nope; x: bool; } linear trait B { x: int; }
+K-OR class C = «(A or B)»; linear trait A { x: int; } linear trait B { x: Fut[A]; x: int; x: bool; }
+K-OR class C = «(A or A or B)»; linear trait A { x: int; x: bool; } linear trait B { x: bool; }
+K-NAME class C = (A or B); linear trait A { x: int; x: «Nope»; } linear trait B { x: int; }
+K-TRAIT class C = (A or B); linear trait A { x: int; «x: int;» } linear trait B { x: int; }
+K-TRAIT class C = (A or B); linear trait A { x: int; «x: bool;» } linear trait B { y: bool; }
+K-CLASS «class C = (A or A);» linear trait A { x: int; x: bool; }
 K-TRAIT linear trait A { def m(): unit { } «def m(k: int, k: int): unit { }» }";
 
 #[test]

@@ -1,5 +1,5 @@
 -- When the traits of a disjunction may share a place.
-use Rattle.std.specs.Prelude.{bytes_eq, ℕ, Bool, true, false, not, ◌&&◌, ◌||◌, List, [], ◌∷◌, map, filter, flat_map, Option, Some, None, slice_get}
+use Rattle.std.specs.Prelude.{bytes_eq, ◌==◌, ℕ, Bool, true, false, not, ◌&&◌, ◌||◌, List, [], ◌∷◌, flat_map, Option, Some, None, slice_get}
 use Rattle.enc_ast.specs.declared.decls.Decl.{Decl}
 use Rattle.enc_ast.specs.declared.decls.Decl.TheVariants.{Trait, Class, Active, Fun}
 use Rattle.enc_ast.specs.declared.decls.Field.{Field}
@@ -15,6 +15,7 @@ use Rattle.enc_premises.specs.Premises.{if_known}
 use Rattle.enc_types.specs.Words.{every}
 use Rattle.enc_types.specs.Names.{Names, trait_named}
 use Rattle.enc_types.specs.Written.{type_of}
+use Rattle.enc_decls.specs.declared.known.Entry.{Entry}
 
 -- ---- the fields of traits
 
@@ -29,32 +30,23 @@ fields_by (Some (Fun d)) = []
 abbrev pub trait_fields : List Decl → ℕ → List Field
 trait_fields ds k = fields_by (slice_get ds k)
 
--- A field by its name, with its type where that is known.
-abbrev pub Entry : Type 0
-Entry = List ℕ × Option Ty
+abbrev pub add_entry : ℕ → List ℕ → Option Ty → List Entry → List Entry
+add_entry k w None es = es
+add_entry k w (Some t) es = record { word = w; ty = t; owner = k } ∷ es
 
-abbrev pub entry_of : Names → Field → Entry
-entry_of names f = (f.name.word, type_of names f.ty)
+-- the fields of the trait with this number whose types are known
+abbrev pub known_fields : Names → ℕ → List Field → List Entry
+known_fields names k [] = []
+known_fields names k (f ∷ fs) = add_entry k f.name.word (type_of names f.ty) (known_fields names k fs)
 
--- each name once, as it stands first
-abbrev pub firsts : List Entry → List Entry
-firsts [] = []
-firsts (e ∷ es) = e ∷ filter (λ d. not (bytes_eq d.0 e.0)) (firsts es)
-
--- the fields of a trait, where the first of a name counts
 abbrev pub entries_of : List Decl → Names → Alt → List Entry
-entries_of ds names a = firsts (map (entry_of names) (trait_fields ds a.number))
+entries_of ds names a = known_fields names a.number (trait_fields ds a.number)
 
 -- ---- conflicts
 
-abbrev pub same_known : Option Ty → Option Ty → Bool
-same_known None u = true
-same_known (Some t) None = true
-same_known (Some t) (Some u) = same t u
-
--- they have other names, or one type as far as their types are known
+-- they have other names, or are of one trait, or have one type
 abbrev pub agree : Entry → Entry → Bool
-agree d e = not (bytes_eq d.0 e.0) || same_known d.1 e.1
+agree d e = not (bytes_eq d.word e.word) || ((d.owner == e.owner) || same d.ty e.ty)
 
 -- each two of them agree
 abbrev pub consistent : List Entry → Bool

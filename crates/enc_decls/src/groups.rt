@@ -1,5 +1,5 @@
 // Disjunctions of traits.
-ghost use Rattle.std.specs.Prelude.{◌≡◌, ◌++◌, map, flat_map, IfOk, OnOk};
+ghost use Rattle.std.specs.Prelude.{◌≡◌, ◌++◌, flat_map, IfOk, OnOk};
 ghost use Rattle.enc_modes.specs.Modes as modes;
 ghost use Rattle.enc_premises.specs.Premises.{if_known};
 ghost use Rattle.enc_types.specs.Words.{every};
@@ -9,11 +9,11 @@ ghost use Rattle.enc_decls.specs.Conflicts as spec;
 use crate::known::{Entry, are_consistent};
 use enc_ast::{Decl, Field, GroupText, Name, Row};
 use enc_modes::{Alt, Mode, Ty, is_sendable};
-use enc_types::{Names, Places};
+use enc_types::Names;
 use std::alloc::{AllocError, Global};
 
 /// Whether the group is one trait, or its traits may share a place: none is subordinate, each field
-/// of theirs may go to another actor, and fields of one name have one type.
+/// of theirs may go to another actor, and fields of one name in two traits have one type.
 #[tactic(auto, unfolding(crate::specs::Conflicts::may_share))]
 pub fn may_share(
     alloc: Global,
@@ -104,27 +104,29 @@ fn entries(
 {
     let mut entries = Row::new(alloc);
     for alt in alts {
-        add_fields(alloc, names, trait_fields(decls, alt.number), &mut entries)?;
+        add_fields(
+            names,
+            trait_fields(decls, alt.number),
+            alt.number,
+            &mut entries,
+        )?;
     }
     Ok(entries)
 }
 
-// Adds the fields of a trait, each name once, as it stands first.
-#[tactic(auto, using(crate::proofs::Firsts::firsts_from))]
+// Adds the fields of a trait whose types are known.
 fn add_fields(
-    alloc: Global,
     names: &Names,
     fields: &[Field],
+    owner: u32,
     entries: &mut Row<Entry>,
 ) -> Result<(), AllocError>
-    ensures { OnOk result (entries.new ≡ entries.old ++ spec.firsts (map (spec.entry_of names.now) fields.now)) }
+    ensures { OnOk result (entries.new ≡ entries.old ++ spec.known_fields names.now owner fields.now) }
 {
-    let mut seen = Places::new(alloc);
     for field in fields {
-        let word = &field.name.word;
-        if !seen.has(word.as_str()) {
-            seen.add(word)?;
-            entries.push((word.copy()?, names.ty(&field.ty)?))?;
+        if let Some(ty) = names.ty(&field.ty)? {
+            let word = field.name.word.copy()?;
+            entries.push(Entry { word, ty, owner })?;
         }
     }
     Ok(())

@@ -1,7 +1,6 @@
-use Rattle.std.proofs.Common.{◌≡◌, ◌++◌, drop, map}
-use Rattle.enc_decls.specs.Conflicts.{entry_of, firsts}
-use Rattle.enc_decls.proofs.Firsts.{firsts_after}
+use Rattle.std.proofs.Common.{◌≡◌, ◌++◌, drop}
+use Rattle.enc_decls.specs.Conflicts.{known_fields}
 use Rattle.enc_decls.proofs.groups.add_fields.Given as goal
 
 abbrev pub invariant-loop-field : goal.invariant-loop-field
-invariant-loop-field l = l.entries ++ firsts_after l.seen (map (entry_of l.names) (drop l.field-index l.fields)) ≡ l.fn.entries ++ firsts (map (entry_of l.names) l.fields)
+invariant-loop-field l = l.entries ++ known_fields l.names l.owner (drop l.field-index l.fields) ≡ l.fn.entries ++ known_fields l.names l.owner l.fields
