@@ -33,7 +33,7 @@ class Box = (Build or Config);
 active class Peer { def see(c: Config): unit { let k = c.value(); print k; } }
 active class Main { def main(args: List[int]): unit {
 let b = new Box; b.fill(7); choose b as Config into c;
-let p = new Peer; p ! see(c);
+let p = new Peer; let q = new Peer; let r = new Peer; p ! see(c); q ! see(c); r ! see(c);
 } }",
         "p.enc:2:48: S-READONLY\n",
     ),
