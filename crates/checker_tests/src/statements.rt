@@ -262,7 +262,12 @@ S-CHOOSE let x = new P; «choose x as A into y;»
 E-MOVED let x = new C; pack x and «x» into z { } else { }
 E-MOVED let x = new P; split x into y: A, z: B; «x».down();
 E-MOVED let x = new E; choose x as R into y; «x».up();
-S-CHAIN let x = new C; let k = 1; pack x and k into z { «let g = chain z with nope();» } else { }";
+S-CHAIN let x = new C; let k = 1; pack x and k into z { «let g = chain z with nope();» } else { }
+E-MOVED let k = 1; pack k and k into z { choose z as A into c; let d = c; let e = «c»; } else { }
+S-PACK let k = 1; «pack k and k into z { choose z as Nope into c; let d = c; let e = c; d = 1; } else { }»
+S-ASSIGN let k = 1; pack k and k into z { let p = lift k; let b = both z, p; «b = 1;» } else { }
+S-ASSIGN let k = 1; pack k and k into z { let p = lift k; let b = otherwise z, p; b = p; «b = 1;» } else { }
+S-PACK let k = 1; «pack k and k into z { let b = both z, z; b = 1; let c = both b, b; c = true; } else { }»";
 
 const GOOD_PARTS: &str =
     "let x = new P; split x into y: B, z: A; pack z and y into w { w.down(); } else { y.down(); z.up(); }

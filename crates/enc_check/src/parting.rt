@@ -1,5 +1,5 @@
 // References that are split, packed and chosen from.
-ghost use Rattle.std.specs.Prelude.{◌≡◌, false, OnOk, IfOk, is_some, option_and_then};
+ghost use Rattle.std.specs.Prelude.{◌≡◌, false, OnOk, IfOk, is_some};
 ghost use Rattle.std.specs.Option.{option_copied};
 ghost use Rattle.enc_premises.specs.Premises.{if_known};
 ghost use Rattle.enc_premises.specs.Passing.{Passes, MemoryOnly};
@@ -15,7 +15,7 @@ use enc_exprs::{Use, lend, type_in, variable};
 use enc_flow::Scope;
 use enc_modes::{Alt, Ty, is_linear};
 use enc_premises::demand;
-use enc_sources::{Context, chosen, packed, splits};
+use enc_sources::{Context, chosen, of_trait, packed, splits};
 use std::alloc::{AllocError, Global};
 
 /// The reference of a variable, split in two new ones, each with its type.
@@ -80,17 +80,18 @@ pub fn choose(
     declare(env, name, ty)
 }
 
-/// What is chosen of a type, where that is known, and whether it can be, as far as the type is known.
+/// The type of what is chosen of a type, where it can be told, and whether it can be chosen, as far as
+/// the type is known.
 fn choice(
     alloc: Global,
     ty: Option<&Ty>,
     alt: Option<Alt>,
 ) -> Result<(Option<Ty>, bool), AllocError>
-    ensures ty { IfOk result (λ r. r.0 ≡ option_and_then (λ t. parts.chosen t alt) (option_copied ty.entry)) }
+    ensures ty { IfOk result (λ r. r.0 ≡ parts.choice_of (option_copied ty.entry) alt) }
     ensures fits { IfOk result (λ r. r.1 ≡ if_known (λ t. is_some (parts.chosen t alt)) (option_copied ty.entry)) }
 {
     match ty {
-        None => Ok((None, true)),
+        None => Ok((of_trait(alloc, alt)?, true)),
         Some(ty) => {
             let found = chosen(alloc, ty, alt)?;
             let there = found.is_some();

@@ -1,6 +1,7 @@
 // The type of an expression, as it is told.
 ghost use Rattle.std.specs.Prelude.{◌≡◌, IfOk};
 ghost use Rattle.std.specs.Option.{option_copied};
+ghost use Rattle.enc_flow.specs.Env.{or_else};
 ghost use Rattle.enc_exprs.specs.Told.{told};
 
 use enc_modes::Ty;
@@ -32,6 +33,16 @@ impl<'a> Told<'a> {
         match ty {
             Some(ty) => Told::Seen(ty),
             None => Told::Unknown,
+        }
+    }
+
+    /// The type, or that of another expression where it isn't known.
+    pub fn or(self, other: Told<'a>) -> Told<'a>
+        ensures { told result ≡ or_else (told self.entry) (told other.entry) }
+    {
+        match self {
+            Told::Unknown => other,
+            known => known,
         }
     }
 

@@ -23,7 +23,7 @@ pub enum Use {
 
 /// The type of a variable in a place, or `None` where it isn't known. It refuses the variable where there
 /// is none of this name, where it was moved, or where it is linear and the place lets no linear one stand.
-/// `mine` says that it is `this`, which is never moved. It takes no memory.
+/// `mine` says that it is `this`, which may not be used up. It takes no memory.
 #[tactic(auto, using(enc_premises::proofs::Passing::passing, crate::proofs::Variables::variables), unfolding(crate::specs::Uses::variable, enc_flow::specs::Env::find))]
 pub fn variable<'a>(
     env: &'a Scope,

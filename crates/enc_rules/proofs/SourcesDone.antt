@@ -123,7 +123,7 @@ trees_done : (ctx : Context) (env : Env) {x y : Expr} (t : Ty) → Copied (names
 trees_done ctx env t d c =
     let f = copied_fine d in
     let g = copied_fine c in
-    record { parts = join f.hold g.hold; own = rw (f.ty, g.ty, tree_has t) (same_self (ty.Par t)); more = refl; ty = f.ty; after = refl }
+    record { parts = join f.hold g.hold; own = rw (f.ty, g.ty, tree_has t) (same_self (ty.Par t)); more = refl; ty = rw f.ty refl; after = refl }
 
 -- a function for a part of the type of an operand
 applied_done : (ctx : Context) (env : Env) {last : Env} {x : Expr} {f : Name} {xs : List Expr} {v t u : Ty} (r : Rule) (of : Ty → Option Ty) (make : Ty → Ty) → Copied (names_of ctx) env x v → of v ≡ Some t → Applies ctx env f t xs u last → Done env (applied ctx env r of make x f xs) (make u) last

@@ -215,7 +215,7 @@ module _ (ctx : Context) (env : Env) (k : Knows env) where
       let b = both_true (is_some (tree_of q.t)) (same p.t q.t) a.1 in
       let u = some_there (tree_of p.t) a.0 in
       let is : p.t ≡ ty.Par u.0 = tree_is p.t u.0 u.1 in
-      record { t = ty.Par u.0; typed = typed u.0 (as_type p (ty.Par u.0) is) (as_type q (ty.Par u.0) (sym (same_is p.t q.t b.1) ∙ is)); ty = p.ty ∙ ap Some is; knows = k }
+      record { t = ty.Par u.0; typed = typed u.0 (as_type p (ty.Par u.0) is) (as_type q (ty.Par u.0) (sym (same_is p.t q.t b.1) ∙ is)); ty = rw p.ty (ap Some is); knows = k }
 
   -- a function for a part of the type of an operand
   applied_sound : (src : SourceForm) (r : Rule) (of : Ty → Option Ty) (make : Ty → Ty) (x : Expr) (f : Name) (xs : List Expr) → ((p : Operand ctx.tables.names env x) (v u : Ty) (last : Env) → of p.t ≡ Some v → Applies ctx env f v xs u last → Gives ctx env src (make u) last) → AllHold (applied ctx env r of make x f xs).parts → (applied ctx env r of make x f xs).own.1 ≡ true → SourceSound ctx env src (applied ctx env r of make x f xs)

@@ -1,6 +1,6 @@
 -- A statement that has no premise that fails is well typed.
 use Rattle.std.proofs.Common.{◌≡◌, ℕ, true, false, not, ◌&&◌, List, [], ◌∷◌, map, length, Option, Some, sym, ap, ◌∙◌, subst}
-use Rattle.std.specs.Prelude.{is_some, option_and_then}
+use Rattle.std.specs.Prelude.{is_some}
 use Rattle.enc_ast.specs.declared.rules.Rule.{Rule}
 use Rattle.enc_ast.specs.declared.rules.Rule.TheVariants as rule
 use Rattle.enc_ast.specs.declared.rules.Span.{Span}
@@ -31,7 +31,7 @@ use Rattle.enc_exprs.proofs.Variables.{variable_known}
 use Rattle.enc_exprs.proofs.Sorts.{bool_is}
 use Rattle.enc_exprs.proofs.Same.{same_is}
 use Rattle.enc_rules.specs.Context.{Context, field_type}
-use Rattle.enc_rules.specs.Parts.{chosen, packed, is_target}
+use Rattle.enc_rules.specs.Parts.{chosen, choice_of, packed, is_target}
 use Rattle.enc_rules.specs.Sources.{outcome}
 use Rattle.enc_rules.specs.Stmts.{Act, act, acts, act_form, all_premises, all_after, condition, consumed, prints, within, var_type, split_ok, pack_ok, pack_known, pack_start, choice}
 use Rattle.enc_rules.specs.Typing.{Layer, names_of, AllPrint, Types, TypesAll}
@@ -152,7 +152,7 @@ mutual
   sound (chooses {x} {y} {z}) ctx env w k v s (join h (join (one n) (one m))) =
       let p = variable_known env Consumes false x.word x.span k h in
       let c = some_there (chosen p.t (trait_named ctx.tables.names y.word)) (subst (λ o. if_known (λ u. is_some (chosen u (trait_named ctx.tables.names y.word))) o ≡ true) p.ty m) in
-      let new : choice ctx env x y ≡ Some c.0 = ap (option_and_then (λ u. chosen u (trait_named ctx.tables.names y.word))) p.ty ∙ c.1 in
+      let new : choice ctx env x y ≡ Some c.0 = ap (λ o. choice_of o (trait_named ctx.tables.names y.word)) p.ty ∙ c.1 in
       record {
         typed = subst (λ o. Types ctx env (StmtForm-F.Choose x y z) (declares (lends env x.word) z.word o)) (sym new) (t.chooses p.t c.0 p.usable (flip _ n) c.1);
         knows = subst (λ o. Knows (declares (lends env x.word) z.word o)) (sym new) (knows_declares (knows_lends k x.word) z.word c.0);

@@ -85,7 +85,8 @@ packed_caps _ _ = None
 unfoldable pub packed : Ty → Ty → Option Ty
 packed left right = packed_caps (cap_of left) (cap_of right)
 
-abbrev chosen_alt : Alt → Ty
+-- the type of a reference by this trait alone
+abbrev pub chosen_alt : Alt → Ty
 chosen_alt a = ty.Cap ((a ∷ []) ∷ [])
 
 abbrev chosen_cap : Option Cap → Option Alt → Option Ty
@@ -95,3 +96,8 @@ chosen_cap _ _ = None
 -- the type of a reference whose disjunction is narrowed to the trait
 unfoldable pub chosen : Ty → Option Alt → Option Ty
 chosen t a = chosen_cap (cap_of t) a
+
+-- what is chosen has the trait as its type, also where the type of the whole isn't known
+abbrev pub choice_of : Option Ty → Option Alt → Option Ty
+choice_of None a = option_map chosen_alt a
+choice_of (Some t) a = chosen t a

@@ -12,7 +12,7 @@ use Rattle.enc_modes.specs.declared.ty.Ty.{Ty}
 use Rattle.enc_modes.specs.declared.ty.Ty.TheVariants as ty
 use Rattle.enc_modes.specs.Modes.{is_linear, is_shareable}
 use Rattle.enc_premises.specs.Premises.{Premises, none, ◌⨾◌, Demand, if_known}
-use Rattle.enc_flow.specs.Env.{Env}
+use Rattle.enc_flow.specs.Env.{Env, or_else}
 use Rattle.enc_types.specs.Written.{local_of}
 use Rattle.enc_names.specs.declared.members.Signature.{Signature}
 use Rattle.enc_names.specs.Lookups.{class_named}
@@ -73,9 +73,9 @@ module _ (ctx : Context) (env : Env) where
   abbrev both_trees : Option Ty → Option Ty → Bool
   both_trees t u = if_known (λ z. is_some (tree_of z)) t && (if_known (λ z. is_some (tree_of z)) u && agree t u)
 
-  -- two trees of one type
+  -- two trees of one type, which the first tells, or else the second
   abbrev pub trees : Expr → Expr → Outcome
-  trees x y = record { parts = expr_premises ctx.tables.names env Copies x ⨾ expr_premises ctx.tables.names env Copies y; own = (rule.SPart, both_trees (expr_type ctx.tables.names env x) (expr_type ctx.tables.names env y)); more = free; ty = expr_type ctx.tables.names env x; after = env }
+  trees x y = record { parts = expr_premises ctx.tables.names env Copies x ⨾ expr_premises ctx.tables.names env Copies y; own = (rule.SPart, both_trees (expr_type ctx.tables.names env x) (expr_type ctx.tables.names env y)); more = free; ty = or_else (expr_type ctx.tables.names env x) (expr_type ctx.tables.names env y); after = env }
 
   abbrev part_known : (Ty → Option Ty) → Option Ty → Option Ty
   part_known of t = option_and_then of t

@@ -1,5 +1,5 @@
 -- The rules of statements.
-use Rattle.std.specs.Prelude.{bytes_eq, Bool, true, false, not, ◌&&◌, List, [], ◌∷◌, map, Option, Some, None, is_some, option_and_then}
+use Rattle.std.specs.Prelude.{bytes_eq, Bool, true, false, not, ◌&&◌, List, [], ◌∷◌, map, Option, Some, None, is_some}
 use Rattle.enc_ast.specs.declared.rules.Span.{Span}
 use Rattle.enc_ast.specs.declared.rules.Rule.{Rule}
 use Rattle.enc_ast.specs.declared.rules.Rule.TheVariants as rule
@@ -24,7 +24,7 @@ use Rattle.enc_exprs.specs.Uses.{this_word, variable, visible, lends, regains}
 use Rattle.enc_exprs.specs.Types.{is_bool, is_plain}
 use Rattle.enc_exprs.specs.Exprs.{judged, expr_type, expr_premises, consumes}
 use Rattle.enc_rules.specs.Context.{Context, only_reads, field_type, field_fits}
-use Rattle.enc_rules.specs.Parts.{is_target, agree, splits, packed, chosen}
+use Rattle.enc_rules.specs.Parts.{is_target, agree, splits, packed, chosen, choice_of}
 use Rattle.enc_rules.specs.Sources.{Outcome, call, send, outcome, waits}
 
 -- A statement, as the rules see it.
@@ -184,7 +184,7 @@ abbrev pub pack_after : Context → Env → Name → Name → Name → List Act 
 pack_after ctx env x y z a b = merged (block_after ctx env (pack_start env x y z) a) (block_after ctx env env b)
 
 abbrev pub choice : Context → Env → Name → Name → Option Ty
-choice ctx env x t = option_and_then (λ u. chosen u (trait_named ctx.tables.names t.word)) (var_type env x)
+choice ctx env x t = choice_of (var_type env x) (trait_named ctx.tables.names t.word)
 
 abbrev pub choose_ok : Context → Env → Name → Name → Bool
 choose_ok ctx env x t = if_known (λ u. is_some (chosen u (trait_named ctx.tables.names t.word))) (var_type env x)

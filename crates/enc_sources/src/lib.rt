@@ -15,6 +15,7 @@ pub use calls::{
 pub use context::Context;
 pub use outcome::{Demand, Demands, Outcome};
 pub use parts::{
-    agree, cap_of, chosen, future_of, is_cap, is_subordinate, is_target, packed, splits, tree_of,
+    agree, cap_of, chosen, future_of, is_cap, is_subordinate, is_target, of_trait, packed, splits,
+    tree_of,
 };
 pub use sources::{call, send, source, waits};

@@ -1,7 +1,6 @@
 // What types are made of.
-ghost use Rattle.std.specs.Prelude.{◌≡◌, [], ◌∷◌, IfOk};
+ghost use Rattle.std.specs.Prelude.{◌≡◌, IfOk, option_map};
 ghost use Rattle.std.specs.Option.{option_copied};
-ghost use Rattle.enc_modes.specs.declared.ty.Ty.TheVariants as ty;
 ghost use Rattle.enc_rules.specs.Parts as spec;
 
 use enc_ast::Row;
@@ -109,20 +108,21 @@ pub fn chosen(alloc: Global, ty: &Ty, alt: Option<Alt>) -> Result<Option<Ty>, Al
     ensures { IfOk result (λ t. t ≡ spec.chosen ty.now alt) }
 {
     match (cap_of(ty), alt) {
-        (Some(cap), Some(alt)) => match choose_of(cap, alt.number) {
-            Some(alt) => Ok(Some(of_trait(alloc, alt)?)),
-            None => Ok(None),
-        },
+        (Some(cap), Some(alt)) => of_trait(alloc, choose_of(cap, alt.number)),
         _ => Ok(None),
     }
 }
 
-fn of_trait(alloc: Global, alt: Alt) -> Result<Ty, AllocError>
-    ensures { IfOk result (λ t. t ≡ ty.Cap ((alt ∷ []) ∷ [])) }
+/// The type of a reference by one trait alone, where there is one.
+pub fn of_trait(alloc: Global, alt: Option<Alt>) -> Result<Option<Ty>, AllocError>
+    ensures { IfOk result (λ t. t ≡ option_map spec.chosen_alt alt) }
 {
+    let Some(alt) = alt else {
+        return Ok(None);
+    };
     let mut group = Row::new(alloc);
     group.push(alt)?;
     let mut cap = Row::new(alloc);
     cap.push(group)?;
-    Ok(Ty::Cap(cap))
+    Ok(Some(Ty::Cap(cap)))
 }

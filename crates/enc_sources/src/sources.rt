@@ -5,6 +5,7 @@ ghost use Rattle.enc_ast.specs.declared.rules.Rule.TheVariants as rules;
 ghost use Rattle.enc_ast.specs.declared.sources.SourceForm.TheVariants as form;
 ghost use Rattle.enc_premises.specs.Premises.{if_known, ◌⨾◌};
 ghost use Rattle.enc_premises.specs.Passing.{Passes};
+ghost use Rattle.enc_flow.specs.Env.{or_else};
 ghost use Rattle.enc_exprs.specs.declared.uses.Use.TheVariants.{Copies};
 ghost use Rattle.enc_exprs.specs.Uses.{this_word, visible as visible_premises};
 ghost use Rattle.enc_exprs.specs.Exprs as exprs;
@@ -294,13 +295,13 @@ fn trees(
     ensures premises { Passes result (exprs.expr_premises context.now.tables.names env.now Copies left.now ⨾ exprs.expr_premises context.now.tables.names env.now Copies right.now) }
     ensures own { IfOk result (λ o. o.own ≡ (rules.SPart, trees_of_one_type (exprs.expr_type context.now.tables.names env.now left.now) (exprs.expr_type context.now.tables.names env.now right.now))) }
     ensures more { IfOk result (λ o. o.more ≡ spec.free) }
-    ensures ty { IfOk result (λ o. o.ty ≡ exprs.expr_type context.now.tables.names env.now left.now) }
+    ensures ty { IfOk result (λ o. o.ty ≡ or_else (exprs.expr_type context.now.tables.names env.now left.now) (exprs.expr_type context.now.tables.names env.now right.now)) }
 {
     let names = context.names();
     let ty = expr_type(alloc, names, env, left, Use::Copies)?;
     let other = expr_type(alloc, names, env, right, Use::Copies)?;
     let holds = both_trees(ty.ty(), other.ty());
-    Ok(Outcome::asking(Rule::SPart, holds, ty.into_ty(alloc)?))
+    Ok(Outcome::asking(Rule::SPart, holds, ty.or(other).into_ty(alloc)?))
 }
 
 fn both_trees(left: Option<&Ty>, right: Option<&Ty>) -> bool
