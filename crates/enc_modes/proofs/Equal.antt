@@ -1,5 +1,5 @@
 -- The test of sameness tells equality.
-use Rattle.std.specs.Prelude.{◌≡◌, ◌↔◌, IsTrue, Bool, true, ◌&&◌, Some}
+use Rattle.std.specs.Prelude.{◌≡◌, ◌↔◌, IsTrue, Bool, true}
 use Rattle.std.proofs.Common.{refl, ap, sym, subst, ◌∙◌, eq-eqb}
 use Rattle.std.proofs.lemmas.Bool.{false≢true}
 use Rattle.std.proofs.lemmas.Bool.Decides.{Decides-eqb}
@@ -7,10 +7,7 @@ use Rattle.enc_modes.specs.declared.ty.Ty.{Ty, out-Ty}
 use Rattle.enc_modes.specs.declared.ty.Ty.TheOpen.{Ty-F}
 use Rattle.enc_modes.specs.declared.ty.Ty.TheViews.{roll-Ty, out-roll-Ty, roll-out-Ty}
 use Rattle.enc_modes.specs.declared.ty.Ty.TheFolds.{ind-Ty, fold-roll-Ty, map-Ty}
-use Rattle.enc_modes.specs.Equality.{same, same_layer, same_cap}
-use Rattle.enc_modes.specs.Order.{Cap}
-use Rattle.enc_modes.specs.Modes.{split_of, can_pack, pack_of, union, linear_mode, mode_of, some_group}
-use Rattle.enc_modes.proofs.Placing.{and_right}
+use Rattle.enc_modes.specs.Equality.{same, same_layer}
 use Rattle.enc_modes.proofs.Same.{against}
 use Rattle.enc_modes.proofs.Tells.{alt_tells, cap_tells}
 
@@ -77,14 +74,3 @@ same_itself = ind-Ty (λ t. same t t ≡ true) (λ x y is.
 -- sameness is equality
 pub same_is_equal : (t u : Ty) → IsTrue (same t u) ↔ (t ≡ u)
 same_is_equal t u = (same_equal t u, λ e. subst (λ z. same t z ≡ true) e (same_itself t))
-
--- the last of four tests
-and_last : (a b c d : Bool) → (a && (b && (c && d))) ≡ true → d ≡ true
-and_last a b c d h = and_right c d (and_right b (c && d) (and_right a (b && (c && d)) h))
-
--- the whole of a split is the union of its parts
-pub split_is_packed : (whole left right : Cap) → IsTrue (split_of whole left right) → IsTrue (can_pack left right) → pack_of left right ≡ Some whole
-unfolding split_of pack_of
-split_is_packed whole left right h p =
-    let e : whole ≡ union left right = cap_tells.equal whole (union left right) (and_last (linear_mode (mode_of whole)) (some_group left) (some_group right) (same_cap whole (union left right)) h) in
-    rw (p) (ap Some (sym e))

@@ -1,9 +1,9 @@
 pub mod Agree
 pub mod Distinct
 pub mod Each
-pub mod Placing
+pub mod Repacked
 pub mod Same
+pub mod Parting
 pub mod Sorting
 pub mod Tells
-pub mod Union
 pub mod Equal

@@ -1,4 +1,4 @@
 pub mod Order
 pub mod Modes
 pub mod Equality
-pub mod Placing
+pub mod Parting

@@ -6,7 +6,7 @@ use Rattle.enc_modes.specs.declared.ty.Mode.TheVariants as mode
 use Rattle.enc_modes.specs.declared.ty.Ty.{Ty, out-Ty}
 use Rattle.enc_modes.specs.declared.ty.Ty.TheOpen.{Ty-F}
 use Rattle.enc_modes.specs.Order.{Group, Cap, in_order}
-use Rattle.enc_modes.specs.Equality.{same_cap}
+use Rattle.enc_modes.specs.Parting.{parted}
 
 abbrev pub linear_mode : Mode → Bool
 linear_mode mode.Linear = true
@@ -84,6 +84,10 @@ joins _ = true
 unfoldable pub composes : Cap → Bool
 composes gs = distinct (traits_of gs) && joins gs
 
+abbrev pub some_trait : Group → Bool
+some_trait [] = false
+some_trait (a ∷ alts) = true
+
 abbrev pub some_group : Cap → Bool
 some_group [] = false
 some_group (g ∷ gs) = true
@@ -94,7 +98,7 @@ union left right = in_order (left ++ right)
 
 -- whole is linear, and the two are its groups parted, neither without a group
 unfoldable pub split_of : Cap → Cap → Cap → Bool
-split_of whole left right = linear_mode (mode_of whole) && (some_group left && (some_group right && same_cap whole (union left right)))
+split_of whole left right = linear_mode (mode_of whole) && (some_group left && (some_group right && parted whole left right))
 
 -- both are linear, and they share no trait
 abbrev pub can_pack : Cap → Cap → Bool

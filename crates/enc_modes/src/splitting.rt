@@ -1,134 +1,104 @@
 // A capability type parted in two.
-ghost use Rattle.std.specs.Prelude.{◌≡◌, ◌==◌, ◌+◌, ◌<◌, ◌≤◌, ◌^◌, ◌&&◌, [], length, slice_get, map};
-ghost use Rattle.enc_modes.specs.Equality.{same_alt as alike, same_group as group_alike, same_cap as cap_alike};
-ghost use Rattle.enc_modes.specs.Modes as spec;
-ghost use Rattle.enc_modes.specs.Order.{sorted, place_of};
-ghost use Rattle.enc_modes.specs.Placing.{below, up_to, holds, stand};
+ghost use Rattle.std.specs.Prelude.{◌≡◌, ◌==◌, ◌≤◌, ◌+◌, ◌∷◌, true, length, IfSome};
+ghost use Rattle.std.specs.List.{list_all};
+ghost use Rattle.enc_modes.specs.Equality.{same_alt as same};
+ghost use Rattle.enc_modes.specs.Modes as modes;
+ghost use Rattle.enc_modes.specs.Parting as spec;
 
-use crate::equality::same_alt;
+use crate::equality::{same_alt, same_group};
 use crate::{Alt, Cap, Group, Mode, mode_of};
 
-/// Whether the whole is linear, and the other two are its groups parted, neither without a group.
+/// Whether the whole is linear, and the other two are its groups parted, neither without a group. The
+/// order of groups, and of the traits in each, makes no difference.
 #[tactic(auto, unfolding(crate::specs::Modes::split_of))]
 pub fn split_of(whole: &Cap, left: &Cap, right: &Cap) -> bool
-    ensures { result ≡ spec.split_of whole.now left.now right.now }
+    ensures { result ≡ modes.split_of whole.now left.now right.now }
 {
     mode_of(whole) == Mode::Linear
         && !left.is_empty()
         && !right.is_empty()
-        && is_union(whole.as_slice(), left.as_slice(), right.as_slice())
+        && are_parted(whole.as_slice(), left.as_slice(), right.as_slice())
 }
 
-// Whether the whole is the groups of both in order.
-#[tactic(auto, using(crate::proofs::Union::unions))]
-fn is_union(whole: &[Group], left: &[Group], right: &[Group]) -> bool
-    ensures { result ≡ cap_alike whole.now (spec.union left.now right.now) }
+// Whether the groups of the whole are those of both parts. Where the parts stand in it in order, one
+// walk tells.
+fn are_parted(whole: &[Group], left: &[Group], right: &[Group]) -> bool
+    ensures { result ≡ spec.parted whole.now left.now right.now }
 {
-    if left.len() > whole.len() || whole.len() - left.len() != right.len() {
-        return false;
-    }
-    groups_stand(whole, &[], left, right) && groups_stand(whole, left, right, &[])
+    interleave(whole, left, right) || balance(whole, left, right)
 }
 
-// Whether each group of the part, in order, stands in the whole in its place among those before the
-// part, in it and after it.
-#[tactic(auto, using(crate::proofs::Union::standing))]
-fn groups_stand(whole: &[Group], before: &[Group], part: &[Group], after: &[Group]) -> bool
-    requires { length before.now + length part.now + length after.now < 2 ^ 64 }
-    ensures { result ≡ stand (sorted (λ alt. alt.number)) place_of group_alike whole.now before.now part.now after.now }
+// Whether each group of the whole is the next one of a part, until both are used up.
+#[tactic(auto, using(crate::proofs::Parting::walk))]
+fn interleave(whole: &[Group], left: &[Group], right: &[Group]) -> bool
+    ensures { result ≡ true → spec.parted whole.now left.now right.now ≡ true }
 {
-    for (at, group) in part.iter().enumerate() {
-        let place = least(group.as_slice());
-        let earlier = up_to_place(before, place) + up_to_place(&part[..at], place);
-        let lower = below_place(&part[at + 1..], place) + below_place(after, place);
-        if !has_group(whole, earlier + lower, group) {
+    let mut lefts = left;
+    let mut rights = right;
+    for group in whole {
+        if let Some(rest) = behind(group, lefts) {
+            lefts = rest;
+        } else if let Some(rest) = behind(group, rights) {
+            rights = rest;
+        } else {
             return false;
         }
     }
-    true
+    lefts.is_empty() && rights.is_empty()
 }
 
-// Whether the group, in order, stands in the place.
-fn has_group(whole: &[Group], at: usize, group: &Group) -> bool
-    ensures { result ≡ holds group_alike (slice_get whole.now at) (sorted (λ alt. alt.number) group.now) }
+// What stands behind the group, where it is the first.
+fn behind<'a>(group: &Group, groups: &'a [Group]) -> Option<&'a [Group]>
+    ensures { IfSome result (λ rest. groups.now ≡ group.now ∷ rest.now) }
 {
-    match whole.get(at) {
-        Some(placed) => is_sorted_from(placed.as_slice(), group.as_slice()),
-        None => false,
+    match groups {
+        [first, ..] if same_group(first.as_slice(), group.as_slice()) => Some(&groups[1..]),
+        _ => None,
     }
 }
 
-// How many of the groups come before the place.
-fn below_place(groups: &[Group], place: u32) -> usize
-    ensures value { result ≡ below (sorted (λ alt. alt.number)) place_of place groups.now }
+// Whether each group of the three stands in the whole as often as in both parts together.
+fn balance(whole: &[Group], left: &[Group], right: &[Group]) -> bool
+    ensures { result ≡ spec.parted whole.now left.now right.now }
+{
+    all_balanced(whole, whole, left, right)
+        && all_balanced(left, whole, left, right)
+        && all_balanced(right, whole, left, right)
+}
+
+fn all_balanced(groups: &[Group], whole: &[Group], left: &[Group], right: &[Group]) -> bool
+    ensures { result ≡ list_all (spec.balanced whole.now left.now right.now) groups.now }
+{
+    groups.iter().all(|group| times(group, whole) == times(group, left) + times(group, right))
+}
+
+// How many of the groups have the same traits as this one.
+fn times(group: &Group, groups: &[Group]) -> usize
+    ensures value { result ≡ spec.times spec.alike group.now groups.now }
     ensures within { result ≤ length groups.now }
 {
     groups
         .iter()
-        .filter(|group| least(group.as_slice()) < place)
+        .filter(|other| are_alike(group.as_slice(), other.as_slice()))
         .count()
 }
 
-// How many of the groups come no later than the place.
-fn up_to_place(groups: &[Group], place: u32) -> usize
-    ensures value { result ≡ up_to (sorted (λ alt. alt.number)) place_of place groups.now }
-    ensures within { result ≤ length groups.now }
+// Whether each trait stands in both groups equally often.
+fn are_alike(left: &[Alt], right: &[Alt]) -> bool
+    ensures { result ≡ spec.alike left.now right.now }
 {
-    groups
-        .iter()
-        .filter(|group| least(group.as_slice()) <= place)
-        .count()
+    all_agree(left, left, right) && all_agree(right, left, right)
 }
 
-// The place of a group once it is in order.
-fn least(group: &[Alt]) -> u32
-    ensures { result ≡ place_of (sorted (λ alt. alt.number) group.now) }
+fn all_agree(alts: &[Alt], left: &[Alt], right: &[Alt]) -> bool
+    ensures { result ≡ list_all (λ a. spec.times same a left.now == spec.times same a right.now) alts.now }
 {
-    group.iter().map(|alt| alt.number).min().unwrap_or(0)
+    alts.iter()
+        .all(|alt| alt_times(alt, left) == alt_times(alt, right))
 }
 
-// Whether the first is the traits of the second in order.
-#[tactic(auto, using(crate::proofs::Union::groups))]
-fn is_sorted_from(placed: &[Alt], group: &[Alt]) -> bool
-    ensures { result ≡ group_alike placed.now (sorted (λ alt. alt.number) group.now) }
+fn alt_times(alt: &Alt, alts: &[Alt]) -> usize
+    ensures { result ≡ spec.times same alt.now alts.now }
 {
-    placed.len() == group.len() && alts_stand(placed, group)
-}
-
-// Whether each trait of the group stands in its place.
-#[tactic(auto, using(crate::proofs::Union::standing))]
-fn alts_stand(placed: &[Alt], group: &[Alt]) -> bool
-    ensures { result ≡ stand (λ alt. alt) (λ alt. alt.number) alike placed.now [] group.now [] }
-{
-    for (at, alt) in group.iter().enumerate() {
-        let earlier = up_to_number(&group[..at], alt.number);
-        let lower = below_number(&group[at + 1..], alt.number);
-        if !has_alt(placed, earlier + lower, alt) {
-            return false;
-        }
-    }
-    true
-}
-
-fn has_alt(placed: &[Alt], at: usize, alt: &Alt) -> bool
-    ensures { result ≡ holds alike (slice_get placed.now at) alt.now }
-{
-    match placed.get(at) {
-        Some(other) => same_alt(other, alt),
-        None => false,
-    }
-}
-
-fn below_number(alts: &[Alt], number: u32) -> usize
-    ensures value { result ≡ below (λ alt. alt) (λ alt. alt.number) number alts.now }
-    ensures within { result ≤ length alts.now }
-{
-    alts.iter().filter(|alt| alt.number < number).count()
-}
-
-fn up_to_number(alts: &[Alt], number: u32) -> usize
-    ensures value { result ≡ up_to (λ alt. alt) (λ alt. alt.number) number alts.now }
-    ensures within { result ≤ length alts.now }
-{
-    alts.iter().filter(|alt| alt.number <= number).count()
+    alts.iter().filter(|other| same_alt(alt, other)).count()
 }

@@ -1,4 +1,4 @@
-use Rattle.enc_modes.proofs.Equal as laws
+use Rattle.enc_modes.proofs.Repacked as laws
 use Rattle.enc_modes.proofs.laws.split_is_packed.Goals as goal
 
 pub returns : goal.returns

@@ -1,0 +1,342 @@
+-- What a type is split into packs to it in order.
+use Rattle.std.specs.Prelude.{◌≡◌, ◌==◌, ◌⊎◌, IsTrue, ℕ, ◌+◌, ◌<◌, Bool, true, false, not, ◌&&◌, ◌||◌, cond, List, [], ◌∷◌, ◌++◌, map, length, filter, Some}
+use Rattle.std.specs.List.{list_all}
+use Rattle.std.proofs.Common.{refl, arith, ap, sym, subst, ◌∙◌, inl, inr, eq-eqb}
+use Rattle.std.proofs.lemmas.Bool.{false≢true}
+use Rattle.std.proofs.lemmas.Bool.Decides.{Decides-eqb, eqb_tells}
+use Rattle.enc_modes.specs.declared.ty.Alt.{Alt}
+use Rattle.enc_modes.specs.Order.{Group, Cap, insert, sorted, place_of, in_order}
+use Rattle.enc_modes.specs.Equality.{same_alt}
+use Rattle.enc_modes.specs.Modes.{contains, distinct, traits_of, joins, composes, some_trait, some_group, linear_mode, mode_of, split_of, can_pack, pack_of, union}
+use Rattle.enc_modes.specs.Parting.{times, alike, balanced, parted}
+use Rattle.enc_modes.proofs.Sorting.{lt_tells, of_key, ascends_sorted, of_key_sorted, same_ascending}
+use Rattle.enc_modes.proofs.Tells.{alt_tells, and_left, and_right, and_true}
+use Rattle.enc_modes.proofs.Parting.{times_cons, all_true}
+
+-- ---- elements
+
+-- It is one of them.
+abbrev In : {A : Type 0} → A → List A → Type 0
+In x [] = ⊥
+In x (y ∷ ys) = (y ≡ x) ⊎ In x ys
+
+-- what holds of all holds of one of them
+all_at : {A : Type 0} (p : A → Bool) (xs : List A) (x : A) → list_all p xs ≡ true → In x xs → p x ≡ true
+all_at p [] x h i = absurd i
+all_at p (y ∷ ys) x h i = elim i [
+  | inl e ↦ subst (λ z. p z ≡ true) e (and_left (p y) (list_all p ys) h)
+  | inr j ↦ all_at p ys x (and_right (p y) (list_all p ys) h) j
+]
+
+-- one of the first list
+in_left : {A : Type 0} (xs ys : List A) (x : A) → In x xs → In x (xs ++ ys)
+in_left [] ys x i = absurd i
+in_left (z ∷ xs) ys x i = elim i [ inl e ↦ inl e | inr j ↦ inr (in_left xs ys x j) ]
+
+-- one of the second
+in_right : {A : Type 0} (xs ys : List A) (x : A) → In x ys → In x (xs ++ ys)
+in_right [] ys x i = i
+in_right (z ∷ xs) ys x i = inr (in_right xs ys x i)
+
+-- tests that agree on all of them let the same through
+filter_same : {A : Type 0} (p q : A → Bool) (xs : List A) → ((x : A) → In x xs → p x ≡ q x) → filter p xs ≡ filter q xs
+filter_same p q [] h = refl
+filter_same p q (x ∷ xs) h = rw (h x (inl refl), filter_same p q xs (λ y i. h y (inr i))) refl
+
+-- what a test lets through is one of them, and passes
+passed : {A : Type 0} (p : A → Bool) (xs : List A) (x : A) → In x (filter p xs) → In x xs × (p x ≡ true)
+passed p [] x i = absurd i
+passed p (y ∷ xs) x i = go (p y) refl i (passed p xs x)
+  where
+    go : (b : Bool) → p y ≡ b → In x (cond b (y ∷ filter p xs) (filter p xs)) → (In x (filter p xs) → In x xs × (p x ≡ true)) → In x (y ∷ xs) × (p x ≡ true)
+    go true e j r = elim j [ inl q ↦ (inl q, subst (λ z. p z ≡ true) q e) | inr k ↦ (inr (r k).0, (r k).1) ]
+    go false e j r = (inr (r j).0, (r j).1)
+
+-- one passes, or none does
+some_passes : {A : Type 0} (p : A → Bool) (xs : List A) → ((x : A) × In x xs × (p x ≡ true)) ⊎ (filter p xs ≡ [])
+some_passes p [] = inr refl
+some_passes {A} p (y ∷ xs) = go (p y) refl (some_passes p xs)
+  where
+    go : (b : Bool) → p y ≡ b → ((x : A) × In x xs × (p x ≡ true)) ⊎ (filter p xs ≡ []) → ((x : A) × In x (y ∷ xs) × (p x ≡ true)) ⊎ (cond b (y ∷ filter p xs) (filter p xs) ≡ [])
+    go true e s = inl (y, inl refl, e)
+    go false e s = elim s [ inl t ↦ inl (t.0, inr t.1, t.2) | inr t ↦ inr t ]
+
+-- where none does, none of them passes
+none_passes : {A : Type 0} (p : A → Bool) (xs : List A) (x : A) → filter p xs ≡ [] → In x xs → p x ≡ true → ⊥
+none_passes p [] x n i e = absurd i
+none_passes p (y ∷ xs) x n i e = go (p y) refl n i (none_passes p xs x)
+  where
+    go : (b : Bool) → p y ≡ b → cond b (y ∷ filter p xs) (filter p xs) ≡ [] → (y ≡ x) ⊎ In x xs → (filter p xs ≡ [] → In x xs → p x ≡ true → ⊥) → ⊥
+    go true f n j r = absurd (grind arith)
+    go false f n j r = elim j [ inl q ↦ false≢true (sym (subst (λ z. p z ≡ false) q f) ∙ e) | inr k ↦ r n k e ]
+
+-- ---- how often
+
+-- in two lists
+times_append : {A : Type 0} (like : A → A → Bool) (g : A) (xs ys : List A) → times like g (xs ++ ys) ≡ times like g xs + times like g ys
+times_append like g [] ys = omega arith
+times_append like g (x ∷ xs) ys =
+    let a = times_cons like g x (xs ++ ys) in
+    let b = times_cons like g x xs in
+    let c = times_append like g xs ys in
+    omega arith
+
+-- one of them is like itself
+some_times : {A : Type 0} (like : A → A → Bool) (x : A) → like x x ≡ true → (xs : List A) → In x xs → 0 < times like x xs
+some_times like x own [] i = absurd i
+some_times like x own (y ∷ ys) i =
+    let c = times_cons like x y ys in
+    elim i [
+      | inl e ↦ let b : like x y ≡ true = subst (λ z. like x z ≡ true) (sym e) own in let d : cond {A = ℕ} (like x y) 1 0 ≡ 1 = ap (λ c. cond {A = ℕ} c 1 0) b in omega arith
+      | inr j ↦ let h = some_times like x own ys j in omega arith
+    ]
+
+-- one that is there as often elsewhere has one like it there
+counterpart : {A : Type 0} (like : A → A → Bool) (y : A) → like y y ≡ true → (xs ys : List A) → times like y xs ≡ times like y ys → In y ys → (x : A) × In x xs × (like y x ≡ true)
+counterpart like y own xs ys e i = elim (some_passes (like y) xs) [
+  | inl t ↦ t
+  | inr n ↦ absurd (let s = some_times like y own ys i in let z = ap length n in omega arith)
+]
+
+-- ---- lists that hold each equally often, in order
+
+-- tests that hold together are one
+both_ways : (a b : Bool) → (a ≡ true → b ≡ true) → (b ≡ true → a ≡ true) → a ≡ b
+both_ways true b f g = sym (f refl)
+both_ways false true f g = g refl
+both_ways false false f g = refl
+
+module _ {A B : Type 0} (form : A → B) (key : B → ℕ) (like : A → A → Bool) (own : (x : A) → like x x ≡ true) (join : (x y z : A) → like x z ≡ true → like y z ≡ true → like x y ≡ true) where
+  -- as many formed alike
+  formed_alike : (b : B) (xs ys : List A) → ((x : A) → In x xs → form x ≡ b) → ((y : A) → In y ys → form y ≡ b) → length xs ≡ length ys → map form xs ≡ map form ys
+  formed_alike b [] [] f g l = refl
+  formed_alike b [] (y ∷ ys) f g l = absurd (omega arith)
+  formed_alike b (x ∷ xs) [] f g l = absurd (omega arith)
+  formed_alike b (x ∷ xs) (y ∷ ys) f g l =
+      let e : form x ≡ form y = f x (inl refl) ∙ sym (g y (inl refl)) in
+      let r : map form xs ≡ map form ys = formed_alike b xs ys (λ z i. f z (inr i)) (λ z i. g z (inr i)) (omega arith) in
+      cc
+
+  -- those of a key, before and after they are formed
+  of_key_formed : (k : ℕ) (xs : List A) → of_key key k (map form xs) ≡ map form (filter (λ x. key (form x) == k) xs)
+  of_key_formed k [] = refl
+  of_key_formed k (x ∷ xs) = go (key (form x) == k) (of_key_formed k xs)
+    where
+      go : (b : Bool) → of_key key k (map form xs) ≡ map form (filter (λ x. key (form x) == k) xs) → cond b (form x ∷ of_key key k (map form xs)) (of_key key k (map form xs)) ≡ map form (cond b (x ∷ filter (λ x. key (form x) == k) xs) (filter (λ x. key (form x) == k) xs))
+      go true e = ap (λ z. form x ∷ z) e
+      go false e = e
+
+  module _ (xs ys : List A) (unique : (x z : A) → In x xs → In z xs → key (form x) ≡ key (form z) → like x z ≡ true) (formed : (x y : A) → In x xs → like x y ≡ true → form x ≡ form y) (same : (z : A) → In z (xs ++ ys) → times like z xs ≡ times like z ys) where
+    -- the other way round
+    turned : (x y : A) → like x y ≡ true → like y x ≡ true
+    turned x y h = join y x y (own y) h
+
+    -- each of the others is formed as one of them
+    formed_there : (y : A) → In y ys → (x : A) × In x xs × (like y x ≡ true) × (form x ≡ form y)
+    formed_there y i =
+        let c = counterpart like y (own y) xs ys (same y (in_right xs ys y i)) i in
+        (c.0, c.1, c.2, formed c.0 y c.1 (turned y c.0 c.2))
+
+    -- those of one key are those that are like one of it
+    key_here : (x z : A) → In x xs → In z xs → (key (form z) == key (form x)) ≡ like x z
+    key_here x z i j = both_ways (key (form z) == key (form x)) (like x z)
+        (λ h. unique x z i j (sym ((Decides-eqb (key (form z)) (key (form x))).0 h)))
+        (λ h. eq-eqb (key (form z)) (key (form x)) (ap key (sym (formed x z i h))))
+
+    -- and so are those of the others
+    key_there : (x y : A) → In x xs → In y ys → (key (form y) == key (form x)) ≡ like x y
+    key_there x y i j = both_ways (key (form y) == key (form x)) (like x y)
+        (λ h.
+        let c = formed_there y j in
+        let e : key (form x) ≡ key (form c.0) = sym (ap key c.3 ∙ (Decides-eqb (key (form y)) (key (form x))).0 h) in
+        join x y c.0 (unique x c.0 i c.1 e) c.2)
+        (λ h. eq-eqb (key (form y)) (key (form x)) (ap key (sym (formed x y i h))))
+
+    -- both have the same of a key
+    by_key : (k : ℕ) → of_key key k (map form xs) ≡ of_key key k (map form ys)
+    by_key k = elim (some_passes (λ x. key (form x) == k) xs) [
+      | inl t ↦
+          let x : A = t.0 in
+          let e : key (form x) ≡ k = (Decides-eqb (key (form x)) k).0 t.2 in
+          let f : filter (λ z. key (form z) == k) xs ≡ filter (like x) xs = rw (← e) (filter_same (λ z. key (form z) == key (form x)) (like x) xs (λ z i. key_here x z t.1 i)) in
+          let g : filter (λ z. key (form z) == k) ys ≡ filter (like x) ys = rw (← e) (filter_same (λ z. key (form z) == key (form x)) (like x) ys (λ z i. key_there x z t.1 i)) in
+          let m : map form (filter (like x) xs) ≡ map form (filter (like x) ys) = formed_alike (form x) (filter (like x) xs) (filter (like x) ys) (λ z i. sym (formed x z t.1 (passed (like x) xs z i).1)) (λ z i. sym (formed x z t.1 (passed (like x) ys z i).1)) (same x (in_left xs ys x t.1)) in
+          of_key_formed k xs ∙ ap (map form) f ∙ m ∙ sym (of_key_formed k ys ∙ ap (map form) g)
+      | inr n ↦ elim (some_passes (λ y. key (form y) == k) ys) [
+        | inl t ↦ absurd (
+            let c = formed_there t.0 t.1 in
+            none_passes (λ x. key (form x) == k) xs c.0 n c.1 (ap (λ b. key b == k) c.3 ∙ t.2))
+        | inr m ↦ of_key_formed k xs ∙ ap (map form) n ∙ sym (of_key_formed k ys ∙ ap (map form) m)
+      ]
+    ]
+
+    -- so both are the same in order
+    same_order : sorted key (map form xs) ≡ sorted key (map form ys)
+    same_order = same_ascending key 0 0 (sorted key (map form xs)) (sorted key (map form ys)) (ascends_sorted key (map form xs)) (ascends_sorted key (map form ys)) (λ k. of_key_sorted key k (map form xs) ∙ by_key k ∙ sym (of_key_sorted key k (map form ys)))
+
+-- ---- numbers
+
+-- the numbers of two lists
+contains_append : (ms ns : List ℕ) (n : ℕ) → contains (ms ++ ns) n ≡ (contains ms n || contains ns n)
+contains_append [] ns n = refl
+contains_append (m ∷ ms) ns n = rw (contains_append ms ns n) (or_assoc (m == n) (contains ms n) (contains ns n))
+  where
+    or_assoc : (a b c : Bool) → (a || (b || c)) ≡ ((a || b) || c)
+    or_assoc true b c = refl
+    or_assoc false b c = refl
+
+-- a number that stands in the first list doesn't stand in the second
+apart : (ms ns : List ℕ) (n : ℕ) → distinct (ms ++ ns) ≡ true → contains ms n ≡ true → contains ns n ≡ true → ⊥
+apart [] ns n d i j = false≢true i
+apart (m ∷ ms) ns n d i j = elim (eqb_tells m n) [
+  | inl w ↦ out (and_left (not (contains (ms ++ ns) m)) (distinct (ms ++ ns)) d) (rw (← w.1) at j)
+  | inr w ↦ apart ms ns n (and_right (not (contains (ms ++ ns) m)) (distinct (ms ++ ns)) d) (rw (w.0) at i) j
+]
+  where
+    out : not (contains (ms ++ ns) m) ≡ true → contains ns m ≡ true → ⊥
+    out e f = go (contains ms m) (rw (contains_append ms ns m, f) at e)
+      where
+        go : (b : Bool) → not (b || true) ≡ true → ⊥
+        go true q = false≢true q
+        go false q = false≢true q
+
+-- the first of two lists
+distinct_left : (ms ns : List ℕ) → distinct (ms ++ ns) ≡ true → distinct ms ≡ true
+distinct_left [] ns d = refl
+distinct_left (m ∷ ms) ns d = and_true (not (contains ms m)) (distinct ms) (go (contains ms m) (rw (contains_append ms ns m) at (and_left (not (contains (ms ++ ns) m)) (distinct (ms ++ ns)) d))) (distinct_left ms ns (and_right (not (contains (ms ++ ns) m)) (distinct (ms ++ ns)) d))
+  where
+    go : (b : Bool) → not (b || contains ns m) ≡ true → not b ≡ true
+    go true q = absurd (false≢true q)
+    go false q = refl
+
+-- the second
+distinct_right : (ms ns : List ℕ) → distinct (ms ++ ns) ≡ true → distinct ns ≡ true
+distinct_right [] ns d = d
+distinct_right (m ∷ ms) ns d = distinct_right ms ns (and_right (not (contains (ms ++ ns) m)) (distinct (ms ++ ns)) d)
+
+-- ---- groups
+
+abbrev numbers : Group → List ℕ
+numbers = map (λ a. a.number)
+
+-- one of them has its number
+has_number : (g : Group) (a : Alt) → In a g → contains (numbers g) a.number ≡ true
+has_number [] a i = absurd i
+has_number (b ∷ g) a i = elim i [
+  | inl e ↦ rw (eq-eqb b.number a.number (ap (λ c. c.number) e)) refl
+  | inr j ↦ rw (has_number g a j) (go (b.number == a.number))
+]
+  where
+    go : (c : Bool) → (c || true) ≡ true
+    go true = refl
+    go false = refl
+
+-- traits of distinct numbers are known by them
+number_unique : (g : Group) → distinct (numbers g) ≡ true → (a b : Alt) → In a g → In b g → a.number ≡ b.number → a ≡ b
+number_unique [] d a b i j e = absurd i
+number_unique (c ∷ g) d a b i j e =
+    let fresh : (x : Alt) → In x g → c.number ≡ x.number → ⊥ = λ x k q. apart (c.number ∷ []) (numbers g) c.number d (rw (eq-eqb c.number c.number refl) refl) (rw (sym q) at (has_number g x k)) in
+    elim i [
+      | inl p ↦ elim j [ inl q ↦ sym p ∙ q | inr l ↦ absurd (fresh b l (ap (λ z. z.number) p ∙ e)) ]
+      | inr k ↦ elim j [ inl q ↦ absurd (fresh a k (ap (λ z. z.number) q ∙ sym e)) | inr l ↦ number_unique g (and_right (not (contains (numbers g) c.number)) (distinct (numbers g)) d) a b k l e ]
+    ]
+
+-- groups that are alike have each trait equally often
+alike_all : (g h : Group) → alike g h ≡ true → (a : Alt) → times same_alt a g ≡ times same_alt a h
+alike_all g h e a = elim (some_passes (same_alt a) (g ++ h)) [
+  | inl t ↦ let q : a ≡ t.0 = alt_tells.equal a t.0 t.2 in subst (λ z. times same_alt z g ≡ times same_alt z h) (sym q) ((Decides-eqb (times same_alt t.0 g) (times same_alt t.0 h)).0 (all_at (λ b. times same_alt b g == times same_alt b h) (g ++ h) t.0 e t.1))
+  | inr n ↦ let z = ap length n in let s = times_append same_alt a g h in omega arith
+]
+
+-- and those that have are alike
+all_alike : (g h : Group) → ((a : Alt) → times same_alt a g ≡ times same_alt a h) → alike g h ≡ true
+all_alike g h e = all_true (λ a. times same_alt a g == times same_alt a h) (λ a. eq-eqb (times same_alt a g) (times same_alt a h) (e a)) (g ++ h)
+
+alike_own : (g : Group) → alike g g ≡ true
+alike_own g = all_alike g g (λ a. refl)
+
+alike_join : (g h k : Group) → alike g k ≡ true → alike h k ≡ true → alike g h ≡ true
+alike_join g h k e f = all_alike g h (λ a. alike_all g k e a ∙ sym (alike_all h k f a))
+
+mapped_itself : {A : Type 0} (xs : List A) → map (λ x. x) xs ≡ xs
+mapped_itself [] = refl
+mapped_itself (x ∷ xs) = ap (λ z. x ∷ z) (mapped_itself xs)
+
+-- groups that are alike are the same in order
+alike_sorted : (g h : Group) → distinct (numbers g) ≡ true → alike g h ≡ true → sorted (λ a. a.number) g ≡ sorted (λ a. a.number) h
+alike_sorted g h d e = rw (mapped_itself g, mapped_itself h) at (same_order {A = Alt} {B = Alt} (λ a. a) (λ a. a.number) same_alt alt_tells.itself
+    (λ x y z p q. subst (λ w. same_alt x w ≡ true) (sym (alt_tells.equal y z q)) p)
+    g h
+    (λ x z i j q. subst (λ w. same_alt x w ≡ true) (number_unique g d x z i j q) (alt_tells.itself x))
+    (λ x y i q. alt_tells.equal x y q)
+    (λ z i. alike_all g h e z))
+
+-- ---- capability types
+
+-- a group has no trait twice where no trait stands twice in all
+distinct_in : (gs : Cap) (g : Group) → distinct (traits_of gs) ≡ true → In g gs → distinct (numbers g) ≡ true
+distinct_in [] g d i = absurd i
+distinct_in (h ∷ gs) g d i = elim i [
+  | inl e ↦ subst (λ z. distinct (numbers z) ≡ true) e (distinct_left (numbers h) (traits_of gs) d)
+  | inr j ↦ distinct_in gs g (distinct_right (numbers h) (traits_of gs) d) j
+]
+
+-- a trait of a group is one of all
+trait_in : (gs : Cap) (g : Group) (n : ℕ) → In g gs → contains (numbers g) n ≡ true → contains (traits_of gs) n ≡ true
+trait_in [] g n i c = absurd i
+trait_in (h ∷ gs) g n i c = rw (contains_append (numbers h) (traits_of gs) n) (elim i [
+  | inl e ↦ rw (subst (λ z. contains (numbers z) n ≡ true) (sym e) c) refl
+  | inr j ↦ rw (trait_in gs g n j c) (go (contains (numbers h) n))
+])
+  where
+    go : (b : Bool) → (b || true) ≡ true
+    go true = refl
+    go false = refl
+
+-- a group has its place by one of its traits
+place_in : (g : Group) → some_trait g ≡ true → contains (numbers g) (place_of (sorted (λ a. a.number) g)) ≡ true
+place_in [] s = absurd (false≢true s)
+place_in (a ∷ []) s = rw (eq-eqb a.number a.number refl) refl
+place_in (a ∷ b ∷ g) s = go (sorted (λ a. a.number) (b ∷ g)) (place_in (b ∷ g) refl)
+  where
+    later : (c : Bool) → (c || true) ≡ true
+    later true = refl
+    later false = refl
+
+    go : (t : Group) → contains (numbers (b ∷ g)) (place_of t) ≡ true → contains (numbers (a ∷ b ∷ g)) (place_of (insert (λ a. a.number) a t)) ≡ true
+    go [] e = rw (eq-eqb a.number a.number refl) refl
+    go (c ∷ t) e = elim (lt_tells c.number a.number) [
+      | inl w ↦ rw (w.0, e) (later (a.number == c.number))
+      | inr w ↦ rw (w.0, eq-eqb a.number a.number refl) refl
+    ]
+
+-- groups are known by their places
+place_unique : (gs : Cap) → distinct (traits_of gs) ≡ true → list_all some_trait gs ≡ true → (g h : Group) → In g gs → In h gs → place_of (sorted (λ a. a.number) g) ≡ place_of (sorted (λ a. a.number) h) → g ≡ h
+place_unique [] d s g h i j e = absurd i
+place_unique (k ∷ gs) d s g h i j e =
+    let rest : list_all some_trait gs ≡ true = and_right (some_trait k) (list_all some_trait gs) s in
+    let own : contains (numbers k) (place_of (sorted (λ a. a.number) k)) ≡ true = place_in k (and_left (some_trait k) (list_all some_trait gs) s) in
+    let fresh : (x : Group) → In x gs → place_of (sorted (λ a. a.number) k) ≡ place_of (sorted (λ a. a.number) x) → ⊥ = λ x l q. apart (numbers k) (traits_of gs) (place_of (sorted (λ a. a.number) k)) d own (trait_in gs x (place_of (sorted (λ a. a.number) k)) l (rw q (place_in x (all_at some_trait gs x rest l)))) in
+    elim i [
+      | inl p ↦ elim j [ inl q ↦ sym p ∙ q | inr l ↦ absurd (fresh h l (ap (λ z. place_of (sorted (λ a. a.number) z)) p ∙ e)) ]
+      | inr m ↦ elim j [ inl q ↦ absurd (fresh g m (ap (λ z. place_of (sorted (λ a. a.number) z)) q ∙ sym e)) | inr l ↦ place_unique gs (distinct_right (numbers k) (traits_of gs) d) rest g h m l e ]
+    ]
+
+-- what is parted is, in order, the groups of both parts
+parted_order : (whole left right : Cap) → distinct (traits_of whole) ≡ true → list_all some_trait whole ≡ true → parted whole left right ≡ true → in_order whole ≡ union left right
+unfolding in_order
+parted_order whole left right d s h = same_order (sorted (λ a. a.number)) place_of alike alike_own alike_join whole (left ++ right)
+    (λ g h i j e. subst (λ z. alike g z ≡ true) (place_unique whole d s g h i j e) (alike_own g))
+    (λ g h i e. alike_sorted g h (distinct_in whole g d i) e)
+    (λ g i. (Decides-eqb (times alike g whole) (times alike g left + times alike g right)).0 (all_at (balanced whole left right) (whole ++ (left ++ right)) g h i) ∙ sym (times_append alike g left right))
+
+-- the last of four tests
+and_last : (a b c d : Bool) → (a && (b && (c && d))) ≡ true → d ≡ true
+and_last a b c d h = and_right c d (and_right b (c && d) (and_right a (b && (c && d)) h))
+
+-- the whole of a split is, in order, what its parts pack to
+pub split_is_packed : (whole left right : Cap) → IsTrue (composes whole) → IsTrue (list_all some_trait whole) → IsTrue (split_of whole left right) → IsTrue (can_pack left right) → pack_of left right ≡ Some (in_order whole)
+unfolding composes split_of pack_of
+split_is_packed whole left right c s h p =
+    let e : in_order whole ≡ union left right = parted_order whole left right (and_left (distinct (traits_of whole)) (joins whole) c) s (and_last (linear_mode (mode_of whole)) (some_group left) (some_group right) (parted whole left right) h) in
+    rw (p) (ap Some (sym e))
