@@ -1,15 +1,18 @@
 -- What a look-up gives is there.
 use Rattle.std.proofs.Common.{◌≡◌, ℕ, suc, Bool, true, false, cond, List, [], ◌∷◌, map, Option, Some, None, option_map, slice_get, refl, ap, subst, arith}
-use Rattle.std.specs.Prelude.{filter_map}
+use Rattle.std.specs.Prelude.{filter_map, flat_map}
 use Rattle.std.specs.List.{cons_option, Contains}
 use Rattle.std.specs.Str.{bytes_eq}
 use Rattle.std.proofs.lemmas.Slice.Eq.{bytes_eq-Decides}
 use Rattle.enc_modes.specs.declared.ty.Ty.{Ty, out-Ty}
 use Rattle.enc_modes.specs.declared.ty.Ty.TheOpen.{Ty-F}
+use Rattle.enc_modes.specs.declared.ty.Ty.TheVariants as ty
+use Rattle.enc_modes.specs.declared.ty.Alt.{Alt}
+use Rattle.enc_modes.specs.Order.{Group}
 use Rattle.enc_types.specs.Words.{place_in}
 use Rattle.enc_names.specs.declared.members.MethodId.{MethodId}
 use Rattle.enc_names.specs.Members.{Tables}
-use Rattle.enc_names.specs.Lookups.{fields_of, field_of, methods_of, method_in, owners_of, only, method_for, sent_layer, sent_for}
+use Rattle.enc_names.specs.Lookups.{fields_of, field_of, methods_of, method_in, is_active, is_trait, trait_method, usable_in, owners_layer, owners_of, only, method_layer, method_for, sent_layer, sent_for}
 
 -- What is in this place has this name.
 abbrev Named : {A : Type 0} → (A → List ℕ) → List A → List ℕ → ℕ → Type 0
@@ -36,11 +39,17 @@ method_in-there t x k m h = go (place_in (map (λ s. s.word) (methods_of t k)) x
     go None e p = absurd (grind arith)
     go (Some i) e p = let q : record { owner = k; index = i } ≡ m = grind arith in subst (λ (n : MethodId). (k ≡ n.owner) × Named (λ s. s.word) (methods_of t k) x n.index) q (refl, place_in-there (λ s. s.word) (methods_of t k) x i e)
 
--- it stands there in its own owner
-at_owner : (t : Tables) (x : List ℕ) (k : ℕ) (m : MethodId) → method_in t x k ≡ Some m → Named (λ s. s.word) (methods_of t m.owner) x m.index
-at_owner t x k m h =
-    let p = method_in-there t x k m h in
-    subst (λ n. Named (λ s. s.word) (methods_of t n) x m.index) p.0 p.1
+-- what is found only where a test holds
+where_true : (b : Bool) (o : Option MethodId) (m : MethodId) → cond b o None ≡ Some m → (b ≡ true) × (o ≡ Some m)
+where_true true o m h = (refl, h)
+where_true false o m h = absurd (grind arith)
+
+-- the method of this name in the declaration with this number, where that is of this kind: it stands there in its own owner
+of_kind-there : (t : Tables) (x : List ℕ) (kind : ℕ → Bool) (k : ℕ) (m : MethodId) → cond (kind k) (method_in t x k) None ≡ Some m → (k ≡ m.owner) × (kind m.owner ≡ true) × Named (λ s. s.word) (methods_of t m.owner) x m.index
+of_kind-there t x kind k m h =
+    let w = where_true (kind k) (method_in t x k) m h in
+    let p = method_in-there t x k m w.1 in
+    (p.0, subst (λ n. kind n ≡ true) p.0 w.0, subst (λ n. Named (λ s. s.word) (methods_of t n) x m.index) p.0 p.1)
 
 -- It is given by one of them.
 abbrev Given : (ℕ → Option MethodId) → List ℕ → MethodId → Type 0
@@ -65,30 +74,57 @@ only-first [] x h = absurd (grind arith)
 only-first (y ∷ []) x h = let q : y ≡ x = grind arith in ap (λ z. z ∷ []) q
 only-first (y ∷ z ∷ xs) x h = absurd (grind arith)
 
--- the method that can be called is given by one of the owners
-given : (t : Tables) (u : Ty) (x : List ℕ) (m : MethodId) → method_for t u x ≡ Some m → Given (method_in t x) (owners_of u) m
-unfolding method_for
-given t u x m h = filter_map-there (method_in t x) (owners_of u) m [] (only-first (filter_map (method_in t x) (owners_of u)) m h)
+-- the method of groups is given by one of their usable traits
+given : (t : Tables) (gs : List Group) (x : List ℕ) (m : MethodId) → method_layer t x (Ty-F.Cap gs) ≡ Some m → Given (trait_method t x) (flat_map usable_in gs) m
+given t gs x m h = let ks = flat_map usable_in gs in filter_map-there (trait_method t x) ks m [] (only-first (filter_map (trait_method t x) ks) m h)
 
 -- a field that is found is there
 pub field_exists : (t : Tables) (k : ℕ) (x : List ℕ) (i : ℕ) → field_of t k x ≡ Some i → Named (λ s. s.word) (fields_of t k) x i
 unfolding field_of
 field_exists t k x i h = place_in-there (λ s. s.word) (fields_of t k) x i h
 
+-- a method that can be called is there, in one of those whose methods can be called
+method_layer-there : (t : Tables) (x : List ℕ) (l : Ty-F Ty) (m : MethodId) → method_layer t x l ≡ Some m → Contains (owners_layer l) m.owner × Named (λ s. s.word) (methods_of t m.owner) x m.index
+method_layer-there t x (Ty-F.Actor k) m h =
+    let p = of_kind-there t x (is_active t) k m h in
+    (subst (λ n. Contains (k ∷ []) n) p.0 (0, omega arith, refl), p.2)
+method_layer-there t x (Ty-F.Cap gs) m h =
+    let g = given t gs x m h in
+    let p = of_kind-there t x (is_trait t) g.0 m g.2 in
+    (subst (λ n. Contains (flat_map usable_in gs) n) p.0 g.1, p.2)
+method_layer-there t x Ty-F.Int m h = absurd (grind arith)
+method_layer-there t x Ty-F.Bool m h = absurd (grind arith)
+method_layer-there t x Ty-F.Text m h = absurd (grind arith)
+method_layer-there t x Ty-F.Unit m h = absurd (grind arith)
+method_layer-there t x (Ty-F.Bestowed a) m h = absurd (grind arith)
+method_layer-there t x (Ty-F.Fut v) m h = absurd (grind arith)
+method_layer-there t x (Ty-F.Par v) m h = absurd (grind arith)
+method_layer-there t x (Ty-F.List v) m h = absurd (grind arith)
+
 -- a method that can be called is there
 pub method_exists : (t : Tables) (u : Ty) (x : List ℕ) (m : MethodId) → method_for t u x ≡ Some m → Named (λ s. s.word) (methods_of t m.owner) x m.index
-method_exists t u x m h = let g = given t u x m h in at_owner t x g.0 m g.2
+unfolding method_for
+method_exists t u x m h = (method_layer-there t x (out-Ty u) m h).1
 
 -- its owner is one of those whose methods can be called
 pub owner_exists : (t : Tables) (u : Ty) (x : List ℕ) (m : MethodId) → method_for t u x ≡ Some m → Contains (owners_of u) m.owner
-owner_exists t u x m h =
-    let g = given t u x m h in
-    subst (λ n. Contains (owners_of u) n) (method_in-there t x g.0 m g.2).0 g.1
+unfolding method_for owners_of
+owner_exists t u x m h = (method_layer-there t x (out-Ty u) m h).0
+
+-- the owner of a method that can be called on an actor is an active class
+pub called_active : (t : Tables) (k : ℕ) (x : List ℕ) (m : MethodId) → method_for t (ty.Actor k) x ≡ Some m → is_active t m.owner ≡ true
+unfolding method_for out-Ty denote.Hole.Carrier.out
+called_active t k x m h = (of_kind-there t x (is_active t) k m h).1
+
+-- the owner of a method that can be called on groups is a trait
+pub called_traits : (t : Tables) (gs : List Group) (x : List ℕ) (m : MethodId) → method_for t (ty.Cap gs) x ≡ Some m → is_trait t m.owner ≡ true
+unfolding method_for out-Ty denote.Hole.Carrier.out
+called_traits t gs x m h = let g = given t gs x m h in (of_kind-there t x (is_trait t) g.0 m g.2).1
 
 -- a method that a message can ask for is there
 sent_layer-there : (t : Tables) (x : List ℕ) (l : Ty-F Ty) (m : MethodId) → sent_layer t x l ≡ Some m → Named (λ s. s.word) (methods_of t m.owner) x m.index
-sent_layer-there t x (Ty-F.Actor k) m h = at_owner t x k m h
-sent_layer-there t x (Ty-F.Bestowed a) m h = at_owner t x a.number m h
+sent_layer-there t x (Ty-F.Actor k) m h = (of_kind-there t x (is_active t) k m h).2
+sent_layer-there t x (Ty-F.Bestowed a) m h = (of_kind-there t x (is_trait t) a.number m h).2
 sent_layer-there t x Ty-F.Int m h = absurd (grind arith)
 sent_layer-there t x Ty-F.Bool m h = absurd (grind arith)
 sent_layer-there t x Ty-F.Text m h = absurd (grind arith)
@@ -102,3 +138,13 @@ sent_layer-there t x (Ty-F.List v) m h = absurd (grind arith)
 pub sent_method_exists : (t : Tables) (u : Ty) (x : List ℕ) (m : MethodId) → sent_for t u x ≡ Some m → Named (λ s. s.word) (methods_of t m.owner) x m.index
 unfolding sent_for
 sent_method_exists t u x m h = sent_layer-there t x (out-Ty u) m h
+
+-- the owner of a method that a message to an actor can ask for is an active class
+pub sent_active : (t : Tables) (k : ℕ) (x : List ℕ) (m : MethodId) → sent_for t (ty.Actor k) x ≡ Some m → is_active t m.owner ≡ true
+unfolding sent_for out-Ty denote.Hole.Carrier.out
+sent_active t k x m h = (of_kind-there t x (is_active t) k m h).1
+
+-- the owner of a method that a message to a bestowed trait can ask for is a trait
+pub sent_bestowed : (t : Tables) (a : Alt) (x : List ℕ) (m : MethodId) → sent_for t (ty.Bestowed a) x ≡ Some m → is_trait t m.owner ≡ true
+unfolding sent_for out-Ty denote.Hole.Carrier.out
+sent_bestowed t a x m h = (of_kind-there t x (is_trait t) a.number m h).1

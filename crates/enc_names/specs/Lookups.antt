@@ -1,5 +1,5 @@
 -- Look-ups in tables.
-use Rattle.std.specs.Prelude.{ℕ, List, [], ◌∷◌, map, filter, filter_map, flat_map, Option, Some, None, option_map, option_and_then, slice_get}
+use Rattle.std.specs.Prelude.{ℕ, Bool, true, false, cond, List, [], ◌∷◌, map, filter, filter_map, flat_map, Option, Some, None, option_map, option_and_then, slice_get}
 use Rattle.enc_modes.specs.declared.ty.Ty.{Ty, out-Ty}
 use Rattle.enc_modes.specs.declared.ty.Ty.TheOpen.{Ty-F}
 use Rattle.enc_modes.specs.declared.ty.Ty.TheVariants as ty
@@ -38,6 +38,34 @@ methods_of t k = methods_at (slice_get t.members k)
 abbrev pub method_in : Tables → List ℕ → ℕ → Option MethodId
 method_in t x k = option_map (λ i. record { owner = k; index = i }) (place_in (map (λ s. s.word) (methods_of t k)) x)
 
+-- what the declaration with this number stands for
+abbrev meaning_at : Tables → ℕ → Option Meaning
+meaning_at t k = option_map (λ n. n.is) (slice_get t.names k)
+
+abbrev active_at : Option Meaning → Bool
+active_at (Some is.Active) = true
+active_at _ = false
+
+-- the declaration with this number is an active class
+abbrev pub is_active : Tables → ℕ → Bool
+is_active t k = active_at (meaning_at t k)
+
+abbrev trait_at : Option Meaning → Bool
+trait_at (Some (is.Trait m)) = true
+trait_at _ = false
+
+-- the declaration with this number is a trait
+abbrev pub is_trait : Tables → ℕ → Bool
+is_trait t k = trait_at (meaning_at t k)
+
+-- the first method of this name in the active class with this number
+abbrev pub active_method : Tables → List ℕ → ℕ → Option MethodId
+active_method t x k = cond (is_active t k) (method_in t x k) None
+
+-- the first method of this name in the trait with this number
+abbrev pub trait_method : Tables → List ℕ → ℕ → Option MethodId
+trait_method t x k = cond (is_trait t k) (method_in t x k) None
+
 -- the signature of a method or a function
 abbrev pub signature_of : Tables → MethodId → Option Signature
 signature_of t m = slice_get (methods_of t m.owner) m.index
@@ -51,7 +79,7 @@ abbrev pub usable_in : Group → List ℕ
 usable_in (a ∷ []) = a.number ∷ []
 usable_in alts = numbers (filter (λ a. linear_mode a.mode) alts)
 
-abbrev owners_layer : Ty-F Ty → List ℕ
+abbrev pub owners_layer : Ty-F Ty → List ℕ
 owners_layer (Ty-F.Actor k) = k ∷ []
 owners_layer (Ty-F.Cap gs) = flat_map usable_in gs
 owners_layer _ = []
@@ -65,13 +93,18 @@ abbrev pub only : {A : Type 0} → List A → Option A
 only (x ∷ []) = Some x
 only _ = None
 
--- the method of this name that can be called on a receiver of the type, where there is exactly one
+abbrev pub method_layer : Tables → List ℕ → Ty-F Ty → Option MethodId
+method_layer t x (Ty-F.Actor k) = active_method t x k
+method_layer t x (Ty-F.Cap gs) = only (filter_map (trait_method t x) (flat_map usable_in gs))
+method_layer t x _ = None
+
+-- the method of this name that can be called on a receiver of the type: that of an active class, or the only one that the usable traits of groups have
 unfoldable pub method_for : Tables → Ty → List ℕ → Option MethodId
-method_for t u x = only (filter_map (method_in t x) (owners_of u))
+method_for t u x = method_layer t x (out-Ty u)
 
 abbrev pub sent_layer : Tables → List ℕ → Ty-F Ty → Option MethodId
-sent_layer t x (Ty-F.Actor k) = method_in t x k
-sent_layer t x (Ty-F.Bestowed a) = method_in t x a.number
+sent_layer t x (Ty-F.Actor k) = active_method t x k
+sent_layer t x (Ty-F.Bestowed a) = trait_method t x a.number
 sent_layer t x _ = None
 
 -- the method of this name that a message to a receiver of the type can ask for: one of an active class or of a bestowed trait

@@ -82,20 +82,21 @@ impl Tables {
     }
 
     /// The method of this name that can be called on a receiver of the type, or `None` where there is
-    /// none, or several. It takes no memory.
-    #[tactic(auto, unfolding(crate::specs::Lookups::method_for, crate::specs::Lookups::owners_of))]
+    /// none, or several. Where an `Actor` has the number of no active class, or an `Alt` that of no
+    /// trait, nothing is found there. It takes no memory.
+    #[tactic(auto, unfolding(crate::specs::Lookups::method_for))]
     pub fn method(&self, ty: &Ty, name: &str) -> Option<MethodId>
         ensures { result ≡ spec.method_for self.now ty.now name.now }
     {
         match ty {
-            Ty::Actor(number) => self.method_in(*number, name),
+            Ty::Actor(number) => self.active_method(*number, name),
             Ty::Cap(cap) => self.usable_method(cap, name),
             _ => None,
         }
     }
 
     fn usable_method(&self, cap: &Cap, name: &str) -> Option<MethodId>
-        ensures { result ≡ spec.only (filter_map (spec.method_in self.now name.now) (flat_map spec.usable_in cap.now)) }
+        ensures { result ≡ spec.only (filter_map (spec.trait_method self.now name.now) (flat_map spec.usable_in cap.now)) }
     {
         let mut found = Found::Nothing;
         for group in cap.as_slice() {
@@ -105,20 +106,20 @@ impl Tables {
     }
 
     fn in_group(&self, found: Found, group: &Group, name: &str) -> Found
-        ensures { result ≡ find_all (spec.method_in self.now name.now) found (spec.usable_in group.now) }
+        ensures { result ≡ find_all (spec.trait_method self.now name.now) found (spec.usable_in group.now) }
     {
         match group.as_slice() {
-            [alt] => found.more(self.method_in(alt.number, name)),
+            [alt] => found.more(self.trait_method(alt.number, name)),
             alts => self.in_linear(found, alts, name),
         }
     }
 
     fn in_linear(&self, mut found: Found, alts: &[Alt], name: &str) -> Found
-        ensures { result ≡ find_all (spec.method_in self.now name.now) found (spec.numbers (filter (λ a. linear_mode a.mode) alts.now)) }
+        ensures { result ≡ find_all (spec.trait_method self.now name.now) found (spec.numbers (filter (λ a. linear_mode a.mode) alts.now)) }
     {
         for alt in alts {
             if alt.mode == Mode::Linear {
-                found = found.more(self.method_in(alt.number, name));
+                found = found.more(self.trait_method(alt.number, name));
             }
         }
         found
@@ -131,8 +132,26 @@ impl Tables {
         ensures { result ≡ spec.sent_for self.now ty.now name.now }
     {
         match ty {
-            Ty::Actor(number) => self.method_in(*number, name),
-            Ty::Bestowed(alt) => self.method_in(alt.number, name),
+            Ty::Actor(number) => self.active_method(*number, name),
+            Ty::Bestowed(alt) => self.trait_method(alt.number, name),
+            _ => None,
+        }
+    }
+
+    fn active_method(&self, owner: u32, name: &str) -> Option<MethodId>
+        ensures { result ≡ spec.active_method self.now name.now owner }
+    {
+        match self.names.get(owner)?.is {
+            Meaning::Active => self.method_in(owner, name),
+            _ => None,
+        }
+    }
+
+    fn trait_method(&self, owner: u32, name: &str) -> Option<MethodId>
+        ensures { result ≡ spec.trait_method self.now name.now owner }
+    {
+        match self.names.get(owner)?.is {
+            Meaning::Trait(_) => self.method_in(owner, name),
             _ => None,
         }
     }
