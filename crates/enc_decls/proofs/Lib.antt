@@ -1,6 +1,6 @@
 pub mod Passing
 pub mod Loops
 pub mod Words
-pub mod Consistent
+pub mod Agreeing
 pub mod Standing
 pub mod Holding

@@ -1,5 +1,5 @@
 -- When the traits of a disjunction may share a place.
-use Rattle.std.specs.Prelude.{bytes_eq, ◌==◌, ℕ, Bool, true, false, not, ◌&&◌, ◌||◌, List, [], ◌∷◌, flat_map, Option, Some, None, slice_get}
+use Rattle.std.specs.Prelude.{bytes_eq, ◌==◌, ℕ, Bool, true, false, not, ◌&&◌, ◌||◌, List, [], ◌∷◌, Option, Some, None, slice_get}
 use Rattle.enc_ast.specs.declared.decls.Decl.{Decl}
 use Rattle.enc_ast.specs.declared.decls.Decl.TheVariants.{Trait, Class, Active, Fun}
 use Rattle.enc_ast.specs.declared.decls.Field.{Field}
@@ -30,28 +30,40 @@ fields_by (Some (Fun d)) = []
 abbrev pub trait_fields : List Decl → ℕ → List Field
 trait_fields ds k = fields_by (slice_get ds k)
 
-abbrev pub add_entry : ℕ → List ℕ → Option Ty → List Entry → List Entry
-add_entry k w None es = es
-add_entry k w (Some t) es = record { word = w; ty = t; owner = k } ∷ es
+abbrev pub add_entry : List ℕ → Option Ty → List Entry → List Entry
+add_entry w None es = es
+add_entry w (Some t) es = record { word = w; ty = t } ∷ es
 
--- the fields of the trait with this number whose types are known
-abbrev pub known_fields : Names → ℕ → List Field → List Entry
-known_fields names k [] = []
-known_fields names k (f ∷ fs) = add_entry k f.name.word (type_of names f.ty) (known_fields names k fs)
+-- the fields of a trait whose types are known
+abbrev pub known_fields : Names → List Field → List Entry
+known_fields names [] = []
+known_fields names (f ∷ fs) = add_entry f.name.word (type_of names f.ty) (known_fields names fs)
 
 abbrev pub entries_of : List Decl → Names → Alt → List Entry
-entries_of ds names a = known_fields names a.number (trait_fields ds a.number)
+entries_of ds names a = known_fields names (trait_fields ds a.number)
 
 -- ---- conflicts
 
--- they have other names, or are of one trait, or have one type
+-- they have other names, or one type
 abbrev pub agree : Entry → Entry → Bool
-agree d e = not (bytes_eq d.word e.word) || ((d.owner == e.owner) || same d.ty e.ty)
+agree d e = not (bytes_eq d.word e.word) || same d.ty e.ty
 
--- each two of them agree
-abbrev pub consistent : List Entry → Bool
-consistent [] = true
-consistent (e ∷ es) = every (agree e) es && consistent es
+-- each of the one agrees with each of the other
+abbrev pub each_agrees : List Entry → List Entry → Bool
+each_agrees ds es = every (λ d. every (agree d) es) ds
+
+-- each field of the one trait agrees with each of the other
+abbrev pub fit : List Decl → Names → Alt → Alt → Bool
+fit ds names a b = each_agrees (entries_of ds names a) (entries_of ds names b)
+
+-- they are one trait, or fit
+abbrev pub one_or_fit : List Decl → Names → Alt → Alt → Bool
+one_or_fit ds names a b = (a.number == b.number) || fit ds names a b
+
+-- each two of them are one trait, or fit
+abbrev pub all_fit : List Decl → Names → List Alt → Bool
+all_fit ds names [] = true
+all_fit ds names (a ∷ alts) = every (one_or_fit ds names a) alts && all_fit ds names alts
 
 abbrev pub subordinate_mode : Mode → Bool
 subordinate_mode mode.Subordinate = true
@@ -71,7 +83,7 @@ traits_in names [] = []
 traits_in names (x ∷ xs) = add_trait (trait_named names x.word) (traits_in names xs)
 
 abbrev pub alts_share : List Decl → Names → List Alt → Bool
-alts_share ds names alts = every (may_leave ds names) alts && consistent (flat_map (entries_of ds names) alts)
+alts_share ds names alts = every (may_leave ds names) alts && all_fit ds names alts
 
 abbrev pub many_share : List Decl → Names → List Name → Bool
 many_share ds names (x ∷ y ∷ xs) = alts_share ds names (traits_in names (x ∷ y ∷ xs))

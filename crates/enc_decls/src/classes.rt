@@ -1,13 +1,15 @@
 // Classes of passive objects.
-ghost use Rattle.std.specs.Prelude.{◌≡◌, true, IfOk};
+ghost use Rattle.std.specs.Prelude.{◌≡◌, true, IfOk, OnOk};
 ghost use Rattle.std.specs.Option.{option_copied};
 ghost use Rattle.enc_premises.specs.Premises.{each, if_known};
 ghost use Rattle.enc_premises.specs.Passing.{Passes};
 ghost use Rattle.enc_types.specs.Names.{groups_of};
+ghost use Rattle.enc_decls.specs.Found.{Right};
 ghost use Rattle.enc_decls.specs.Rules as rules;
 ghost use Rattle.enc_decls.specs.Nodes as spec;
 
 use crate::groups::may_share;
+use crate::traits::Traits;
 use enc_ast::{ClassDecl, Decl, Fail, GroupText, Rule};
 use enc_modes::{Cap, Mode, composes, mode_of};
 use enc_premises::demand;
@@ -21,13 +23,16 @@ pub fn judge_class(
     alloc: Global,
     decls: &[Decl],
     names: &Names,
+    traits: &mut Traits,
     new: bool,
     class: &ClassDecl,
 ) -> Result<(), Fail>
-    requires { new ≡ true → spec.groups_named names.now class.now.name.word ≡ groups_of decls.now class.now }
-    ensures { Passes result (spec.class_node decls.now names.now new class.now) }
+    requires right { Right decls.now names.now traits.old }
+    requires own { new ≡ true → spec.groups_named names.now class.now.name.word ≡ groups_of decls.now class.now }
+    ensures passes { Passes result (spec.class_node decls.now names.now new class.now) }
+    ensures right { OnOk result (Right decls.now names.now traits.new) }
 {
-    each_group(alloc, decls, names, class.groups.as_slice())?;
+    each_group(alloc, decls, names, traits, class.groups.as_slice())?;
     demand(Rule::KName, class.span, new)?;
     let groups = groups_named(names, class.name.word.as_str());
     let is_class = is_class(alloc, groups)?;
@@ -39,22 +44,33 @@ fn each_group(
     alloc: Global,
     decls: &[Decl],
     names: &Names,
+    traits: &mut Traits,
     groups: &[GroupText],
 ) -> Result<(), Fail>
-    ensures { Passes result (each (rules.group_premises decls.now names.now) groups.now) }
+    requires { Right decls.now names.now traits.old }
+    ensures passes { Passes result (each (rules.group_premises decls.now names.now) groups.now) }
+    ensures right { OnOk result (Right decls.now names.now traits.new) }
 {
     for group in groups {
-        judge_group(alloc, decls, names, group)?;
+        judge_group(alloc, decls, names, traits, group)?;
     }
     Ok(())
 }
 
 #[tactic(auto, using(crate::proofs::Passing::passing))]
-fn judge_group(alloc: Global, decls: &[Decl], names: &Names, group: &GroupText) -> Result<(), Fail>
-    ensures { Passes result (rules.group_premises decls.now names.now group.now) }
+fn judge_group(
+    alloc: Global,
+    decls: &[Decl],
+    names: &Names,
+    traits: &mut Traits,
+    group: &GroupText,
+) -> Result<(), Fail>
+    requires { Right decls.now names.now traits.old }
+    ensures passes { Passes result (rules.group_premises decls.now names.now group.now) }
+    ensures right { OnOk result (Right decls.now names.now traits.new) }
 {
     demand(Rule::KName, group.span, names.are_traits(group))?;
-    let shares = may_share(alloc, decls, names, group)?;
+    let shares = may_share(alloc, decls, names, traits, group)?;
     demand(Rule::KOr, group.span, shares)
 }
 

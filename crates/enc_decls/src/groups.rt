@@ -1,33 +1,35 @@
 // Disjunctions of traits.
-ghost use Rattle.std.specs.Prelude.{◌≡◌, ◌++◌, flat_map, IfOk, OnOk};
-ghost use Rattle.enc_modes.specs.Modes as modes;
-ghost use Rattle.enc_premises.specs.Premises.{if_known};
+ghost use Rattle.std.specs.Prelude.{◌≡◌, ◌++◌, IfOk, OnOk};
 ghost use Rattle.enc_types.specs.Words.{every};
-ghost use Rattle.enc_types.specs.Written.{type_of};
 ghost use Rattle.enc_decls.specs.Conflicts as spec;
+ghost use Rattle.enc_decls.specs.Found.{Right};
 
-use crate::known::{Entry, are_consistent};
-use enc_ast::{Decl, Field, GroupText, Name, Row};
-use enc_modes::{Alt, Mode, Ty, is_sendable};
+use crate::traits::Traits;
+use enc_ast::{Decl, GroupText, Name, Row};
+use enc_modes::Alt;
 use enc_types::Names;
 use std::alloc::{AllocError, Global};
 
 /// Whether the group is one trait, or its traits may share a place: none is subordinate, each field
-/// of theirs may go to another actor, and fields of one name in two traits have one type.
+/// of theirs may go to another actor, and fields of one name in two traits have one type. Where
+/// memory runs out, it answers `AllocError`.
 #[tactic(auto, unfolding(crate::specs::Conflicts::may_share))]
 pub fn may_share(
     alloc: Global,
     decls: &[Decl],
     names: &Names,
+    traits: &mut Traits,
     group: &GroupText,
 ) -> Result<bool, AllocError>
-    ensures { IfOk result (λ it. it ≡ spec.may_share decls.now names.now group.now) }
+    requires { Right decls.now names.now traits.old }
+    ensures value { IfOk result (λ it. it ≡ spec.may_share decls.now names.now group.now) }
+    ensures right { OnOk result (Right decls.now names.now traits.new) }
 {
     match group.names.as_slice() {
         [] | [_] => Ok(true),
         words => {
             let alts = traits_in(alloc, names, words)?;
-            alts_share(alloc, decls, names, alts.as_slice())
+            alts_share(alloc, decls, names, traits, alts.as_slice())
         }
     }
 }
@@ -48,86 +50,58 @@ fn alts_share(
     alloc: Global,
     decls: &[Decl],
     names: &Names,
+    traits: &mut Traits,
     alts: &[Alt],
 ) -> Result<bool, AllocError>
-    ensures { IfOk result (λ it. it ≡ spec.alts_share decls.now names.now alts.now) }
+    requires { Right decls.now names.now traits.old }
+    ensures value { IfOk result (λ it. it ≡ spec.alts_share decls.now names.now alts.now) }
+    ensures right { OnOk result (Right decls.now names.now traits.new) }
 {
     for alt in alts {
-        if !may_leave(decls, names, *alt)? {
+        if !traits.may_leave(alloc, decls, names, *alt)? {
             return Ok(false);
         }
     }
-    let entries = entries(alloc, decls, names, alts)?;
-    are_consistent(alloc, entries.as_slice())
+    all_fit(alloc, decls, names, traits, alts)
 }
 
-// Whether the trait isn't subordinate and each of its fields may go to another actor.
-fn may_leave(decls: &[Decl], names: &Names, alt: Alt) -> Result<bool, AllocError>
-    ensures { IfOk result (λ it. it ≡ spec.may_leave decls.now names.now alt) }
+// Whether each two of them are one trait, or fit.
+fn all_fit(
+    alloc: Global,
+    decls: &[Decl],
+    names: &Names,
+    traits: &mut Traits,
+    alts: &[Alt],
+) -> Result<bool, AllocError>
+    requires { Right decls.now names.now traits.old }
+    ensures value { IfOk result (λ it. it ≡ spec.all_fit decls.now names.now alts.now) }
+    ensures right { OnOk result (Right decls.now names.now traits.new) }
 {
-    if alt.mode == Mode::Subordinate {
-        return Ok(false);
-    }
-    for field in trait_fields(decls, alt.number) {
-        if !may_be_sent(&names.ty(&field.ty)?) {
+    for (at, alt) in alts.iter().enumerate() {
+        if !fits_each(alloc, decls, names, traits, *alt, &alts[at + 1..])? {
             return Ok(false);
         }
     }
     Ok(true)
 }
 
-fn may_be_sent(ty: &Option<Ty>) -> bool
-    ensures { result ≡ if_known modes.is_sendable ty.now }
-{
-    match ty {
-        None => true,
-        Some(ty) => is_sendable(ty),
-    }
-}
-
-fn trait_fields(decls: &[Decl], number: u32) -> &[Field]
-    ensures { result.now ≡ spec.trait_fields decls.now number }
-{
-    match decls.get(number as usize) {
-        Some(Decl::Trait(decl)) => decl.fields.as_slice(),
-        _ => &[],
-    }
-}
-
-fn entries(
+// Whether each of the others is the same trait as the one, or fits it.
+fn fits_each(
     alloc: Global,
     decls: &[Decl],
     names: &Names,
-    alts: &[Alt],
-) -> Result<Row<Entry>, AllocError>
-    ensures { IfOk result (λ entries. entries ≡ flat_map (spec.entries_of decls.now names.now) alts.now) }
+    traits: &mut Traits,
+    one: Alt,
+    others: &[Alt],
+) -> Result<bool, AllocError>
+    requires { Right decls.now names.now traits.old }
+    ensures value { IfOk result (λ it. it ≡ every (spec.one_or_fit decls.now names.now one) others.now) }
+    ensures right { OnOk result (Right decls.now names.now traits.new) }
 {
-    let mut entries = Row::new(alloc);
-    for alt in alts {
-        add_fields(
-            names,
-            trait_fields(decls, alt.number),
-            alt.number,
-            &mut entries,
-        )?;
-    }
-    Ok(entries)
-}
-
-// Adds the fields of a trait whose types are known.
-fn add_fields(
-    names: &Names,
-    fields: &[Field],
-    owner: u32,
-    entries: &mut Row<Entry>,
-) -> Result<(), AllocError>
-    ensures { OnOk result (entries.new ≡ entries.old ++ spec.known_fields names.now owner fields.now) }
-{
-    for field in fields {
-        if let Some(ty) = names.ty(&field.ty)? {
-            let word = field.name.word.copy()?;
-            entries.push(Entry { word, ty, owner })?;
+    for other in others {
+        if !traits.are_one_or_fit(alloc, decls, names, one, *other)? {
+            return Ok(false);
         }
     }
-    Ok(())
+    Ok(true)
 }

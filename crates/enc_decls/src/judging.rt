@@ -1,8 +1,9 @@
 // The declarations of a program.
-ghost use Rattle.std.specs.Prelude.{◌≡◌, []};
+ghost use Rattle.std.specs.Prelude.{◌≡◌, [], OnOk};
 ghost use Rattle.enc_premises.specs.Premises.{each_after};
 ghost use Rattle.enc_premises.specs.Passing.{Passes};
 ghost use Rattle.enc_types.specs.Names as meaning;
+ghost use Rattle.enc_decls.specs.Found.{Right};
 ghost use Rattle.enc_decls.specs.Rules.{table_premises, decl_premises};
 ghost use Rattle.enc_decls.specs.Nodes as spec;
 
@@ -10,6 +11,7 @@ use crate::classes::judge_class;
 use crate::main_class::has_main;
 use crate::members::{Owner, members};
 use crate::routines::{is_function, routine_types};
+use crate::traits::Traits;
 use enc_ast::{ActiveDecl, Decl, Fail, Method, ModeWord, Program, Rule, TraitDecl, Word};
 use enc_modes::Mode;
 use enc_premises::demand;
@@ -25,21 +27,23 @@ pub fn judge(alloc: Global, program: &Program, names: &Names) -> Result<(), Fail
     ensures { Passes result (table_premises program.now) }
 {
     let decls = program.decls.as_slice();
-    each_decl(alloc, decls, names)?;
+    let mut traits = Traits::new(alloc);
+    each_decl(alloc, decls, names, &mut traits)?;
     let has_main = has_main(alloc, decls, names)?;
     demand(Rule::KMain, program.span, has_main)
 }
 
 #[tactic(auto, using(crate::proofs::Loops::afters))]
-fn each_decl(alloc: Global, decls: &[Decl], names: &Names) -> Result<(), Fail>
-    requires { names.now ≡ meaning.names_of decls.now }
+fn each_decl(alloc: Global, decls: &[Decl], names: &Names, traits: &mut Traits) -> Result<(), Fail>
+    requires names { names.now ≡ meaning.names_of decls.now }
+    requires right { Right decls.now names.now traits.old }
     ensures { Passes result (each_after (decl_premises decls.now names.now) [] decls.now) }
 {
     let mut seen = Places::new(alloc);
     for decl in decls {
         let word = word_of(decl);
         let new = !seen.has(word.as_str());
-        judge_decl(alloc, decls, names, new, decl)?;
+        judge_decl(alloc, decls, names, traits, new, decl)?;
         seen.add(word)?;
     }
     Ok(())
@@ -60,15 +64,18 @@ fn judge_decl(
     alloc: Global,
     decls: &[Decl],
     names: &Names,
+    traits: &mut Traits,
     new: bool,
     decl: &Decl,
 ) -> Result<(), Fail>
-    requires { spec.StandsForItself decls.now names.now new decl.now }
-    ensures { Passes result (spec.decl_node decls.now names.now new decl.now) }
+    requires right { Right decls.now names.now traits.old }
+    requires itself { spec.StandsForItself decls.now names.now new decl.now }
+    ensures passes { Passes result (spec.decl_node decls.now names.now new decl.now) }
+    ensures right { OnOk result (Right decls.now names.now traits.new) }
 {
     match decl {
         Decl::Trait(decl) => judge_trait(alloc, names, new, decl),
-        Decl::Class(decl) => judge_class(alloc, decls, names, new, decl),
+        Decl::Class(decl) => judge_class(alloc, decls, names, traits, new, decl),
         Decl::Active(decl) => judge_active(alloc, names, new, decl),
         Decl::Fun(decl) => judge_function(alloc, names, new, decl),
     }

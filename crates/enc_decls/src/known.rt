@@ -1,117 +1,128 @@
-// What fields of one name have in common.
-ghost use Rattle.std.specs.Prelude.{◌≡◌, ◌<◌, [], ◌∷◌, ◌++◌, length, slice_get, IfOk, OnOk};
-ghost use Rattle.enc_modes.specs.Equality.{same};
+// What is known of the types of a trait's fields.
+ghost use Rattle.std.specs.Prelude.{◌≡◌, IfOk};
+ghost use Rattle.std.specs.HashMap.{get_by_text};
+ghost use Rattle.enc_types.specs.Words.{every};
 ghost use Rattle.enc_decls.specs.Conflicts as conflicts;
 ghost use Rattle.enc_decls.specs.Known as spec;
 
-use enc_ast::Word;
+use enc_ast::{Field, Row, Word};
 use enc_modes::Ty;
-use enc_types::Places;
+use enc_types::Names;
+use indexmap::IndexMap;
 use std::alloc::{AllocError, Global};
+use std::marker::Model;
 
-/// A field by its name, with its type and the number of its trait.
+/// A field by its name, with its type.
 #[derive(Drop)]
 pub struct Entry {
     pub word: Word,
     pub ty: Ty,
-    pub owner: u32,
 }
 
-// What all fields of one name have in common: their type, the number of their trait, or both.
+/// The fields of a trait whose types are known.
 #[derive(Drop)]
-struct Common {
-    ty: Option<Ty>,
-    owner: Option<u32>,
+pub struct Fields {
+    entries: Row<Entry>,
+    // By each name the type that all fields of the name have, or `None` where they have several.
+    types: IndexMap<String, Option<Ty>>,
 }
 
-impl Common {
-    fn of(alloc: Global, entry: &Entry) -> Result<Common, AllocError>
-        ensures { IfOk result (λ common. common ≡ spec.common_of entry.now) }
-    {
-        Ok(Common {
-            ty: Some(entry.ty.copy(alloc)?),
-            owner: Some(entry.owner),
-        })
-    }
+impl Model for Fields {
+    ghost use Rattle.std.specs.Prelude.{List};
+    ghost use Rattle.std.specs.Coded.{codes};
+    ghost use Rattle.enc_modes.specs.contracts.ty.Ty as ty;
+    ghost use Rattle.enc_decls.specs.declared.known.Entry.{Entry};
+    ghost use Rattle.enc_decls.specs.Known.{IsIndexed};
 
-    // Leaves what they and one more field have in common, and answers whether there is anything.
-    fn narrow(&mut self, entry: &Entry) -> bool
-        ensures left { self.new ≡ spec.narrowed self.old entry.now }
-        ensures some { result ≡ spec.joins self.old entry.now }
-    {
-        if !self.has_type(&entry.ty) {
-            self.ty = None;
-        }
-        if self.owner != Some(entry.owner) {
-            self.owner = None;
-        }
-        self.ty.is_some() || self.owner.is_some()
-    }
+    ghost Value = { List Entry };
 
-    fn has_type(&self, ty: &Ty) -> bool
-        ensures { result ≡ spec.has_all same self.now.ty ty.now }
-    {
-        match &self.ty {
-            None => false,
-            Some(own) => own.is(ty),
-        }
-    }
+    ghost coded = { Prim.hlevel (codes, ty.the_row.coded) };
+
+    ghost view = { λ fields. fields.entries };
+
+    ghost invariant = { λ fields. IsIndexed fields.entries fields.types };
 }
 
-// What is known of the fields of each name.
-#[derive(Drop)]
-struct Known {
-    words: Places,
-    commons: Vec<Common>,
-}
-
-impl Known {
-    fn new(alloc: Global) -> Known
-        ensures words { result.words ≡ [] }
-        ensures commons { result.commons.items ≡ [] }
+impl Fields {
+    /// Those of these fields whose types are known. Where memory runs out, it answers `AllocError`.
+    pub fn of(alloc: Global, names: &Names, fields: &[Field]) -> Result<Fields, AllocError>
+        ensures { IfOk result (λ known. known ≡ conflicts.known_fields names.now fields.now) }
     {
-        Known {
-            words: Places::new(alloc),
-            commons: Vec::new(alloc),
+        let entries = entries_of(alloc, names, fields)?;
+        let types = types_of(alloc, entries.as_slice())?;
+        Ok(Fields { entries, types })
+    }
+
+    /// Whether each of them agrees with each of the others. It goes over those that are fewer.
+    #[tactic(auto, using(crate::proofs::Agreeing::turned))]
+    pub fn fit(&self, other: &Fields) -> bool
+        ensures { result ≡ conflicts.each_agrees self.now other.now }
+    {
+        if other.entries.len() < self.entries.len() {
+            other.all_agree(self)
+        } else {
+            self.all_agree(other)
         }
     }
 
-    // Adds the first field of a name.
-    fn add(&mut self, alloc: Global, entry: &Entry) -> Result<(), AllocError>
-        ensures words { OnOk result (self.new.words ≡ self.old.words ++ entry.now.word ∷ []) }
-        ensures commons { OnOk result (self.new.commons.items ≡ self.old.commons.items ++ spec.common_of entry.now ∷ []) }
+    fn all_agree(&self, other: &Fields) -> bool
+        ensures { result ≡ conflicts.each_agrees self.now other.now }
     {
-        self.words.add(&entry.word)?;
-        self.commons.push(Common::of(alloc, entry)?)?;
-        Ok(())
-    }
-
-    // Adds one more field of the name in this place, and answers whether it agrees with those before.
-    fn join(&mut self, place: u32, entry: &Entry) -> bool
-        requires { place < length self.old.commons.items }
-        ensures words { self.new.words ≡ self.old.words }
-        ensures commons { self.new.commons.items ≡ spec.narrowed_at self.old.commons.items place entry.now }
-        ensures agrees { result ≡ spec.joins_all (slice_get self.old.commons.items place) entry.now }
-    {
-        self.commons[place as usize].narrow(entry)
-    }
-}
-
-/// Whether fields of one name in different traits have one type.
-#[tactic(auto, using(crate::proofs::Consistent::steps))]
-pub fn are_consistent(alloc: Global, entries: &[Entry]) -> Result<bool, AllocError>
-    ensures { IfOk result (λ it. it ≡ conflicts.consistent entries.now) }
-{
-    let mut known = Known::new(alloc);
-    for entry in entries {
-        match known.words.find(entry.word.as_str()) {
-            None => known.add(alloc, entry)?,
-            Some(place) => {
-                if !known.join(place, entry) {
-                    return Ok(false);
-                }
+        for entry in self.entries.as_slice() {
+            if !may_have(&other.types, entry) {
+                return false;
             }
         }
+        true
     }
-    Ok(true)
+}
+
+fn entries_of(alloc: Global, names: &Names, fields: &[Field]) -> Result<Row<Entry>, AllocError>
+    ensures { IfOk result (λ entries. entries ≡ conflicts.known_fields names.now fields.now) }
+{
+    let mut entries = Row::new(alloc);
+    for field in fields {
+        if let Some(ty) = names.ty(&field.ty)? {
+            let word = field.name.word.copy()?;
+            entries.push(Entry { word, ty })?;
+        }
+    }
+    Ok(entries)
+}
+
+fn types_of(alloc: Global, entries: &[Entry]) -> Result<IndexMap<String, Option<Ty>>, AllocError>
+    ensures { IfOk result (λ types. spec.IsIndexed entries.now types) }
+{
+    let mut types = IndexMap::new(alloc);
+    for entry in entries {
+        let ty = narrowed(alloc, &types, entry)?;
+        let word = entry.word.copy()?;
+        types.insert(word.into_string(), ty)?;
+    }
+    Ok(types)
+}
+
+// The type that the fields of a name have behind one more of them.
+fn narrowed(
+    alloc: Global,
+    types: &IndexMap<String, Option<Ty>>,
+    entry: &Entry,
+) -> Result<Option<Ty>, AllocError>
+    ensures { IfOk result (λ ty. ty ≡ spec.narrowed (get_by_text types.now entry.now.word) entry.now.ty) }
+{
+    if !may_have(types, entry) {
+        return Ok(None);
+    }
+    Ok(Some(entry.ty.copy(alloc)?))
+}
+
+// Whether the known fields of the name have the type of this one.
+fn may_have(types: &IndexMap<String, Option<Ty>>, entry: &Entry) -> bool
+    ensures { result ≡ spec.has_all (get_by_text types.now entry.now.word) entry.now.ty }
+{
+    match types.get(entry.word.as_str()) {
+        None => true,
+        Some(None) => false,
+        Some(Some(ty)) => ty.is(&entry.ty),
+    }
 }

@@ -9,6 +9,7 @@ mod laws;
 mod main_class;
 mod members;
 mod routines;
+mod traits;
 
 pub use judging::judge;
 pub use laws::{one_main, one_name};
