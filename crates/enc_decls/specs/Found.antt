@@ -25,7 +25,7 @@ found_of traits k = map.get_by (nat_eq k) traits.found
 abbrev pub are_fitting : Traits → ℕ → ℕ → Bool
 are_fitting traits k l = set.contains_by (λ p. nat_eq k p.0 && nat_eq l p.1) traits.fitting
 
--- The fields of each trait are its own, each of them may be sent or not, and the traits fit that were found to fit.
+-- Of each trait its own fields are kept, and whether all of them may be sent; and traits that were found to fit do.
 pub record Right (ds : List Decl) (names : Names) (traits : Traits) : Type 0 where
   pub known : (a : Alt) → IfSome (found_of traits a.number) (λ found. (found.fields ≡ entries_of ds names a) × (found.may_be_sent ≡ all_sendable ds names a))
   pub fitting : (a b : Alt) → are_fitting traits a.number b.number ≡ true → fit ds names a b ≡ true

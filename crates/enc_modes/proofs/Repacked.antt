@@ -1,5 +1,5 @@
 -- What a type is split into packs to it in order.
-use Rattle.std.specs.Prelude.{◌≡◌, ◌==◌, ◌⊎◌, IsTrue, ℕ, ◌+◌, ◌<◌, Bool, true, false, not, ◌&&◌, ◌||◌, cond, List, [], ◌∷◌, ◌++◌, map, length, filter, Some}
+use Rattle.std.specs.Prelude.{◌≡◌, ◌==◌, ◌⊎◌, IsTrue, ℕ, ◌+◌, ◌<◌, ◌≤◌, Bool, true, false, not, ◌&&◌, ◌||◌, cond, List, [], ◌∷◌, ◌++◌, map, length, filter, Some}
 use Rattle.std.specs.List.{list_all}
 use Rattle.std.proofs.Common.{refl, arith, ap, sym, subst, ◌∙◌, inl, inr, eq-eqb}
 use Rattle.std.proofs.lemmas.Bool.{false≢true}
@@ -7,10 +7,11 @@ use Rattle.std.proofs.lemmas.Bool.Decides.{Decides-eqb, eqb_tells}
 use Rattle.enc_modes.specs.declared.ty.Alt.{Alt}
 use Rattle.enc_modes.specs.Order.{Group, Cap, insert, sorted, place_of, in_order}
 use Rattle.enc_modes.specs.Equality.{same_alt}
-use Rattle.enc_modes.specs.Modes.{contains, distinct, traits_of, joins, composes, some_trait, some_group, linear_mode, mode_of, split_of, can_pack, pack_of, union}
+use Rattle.enc_modes.specs.Modes.{contains, distinct, overlap, traits_of, can_join, all_join, joins, composes, some_trait, some_group, linear_mode, mode_of, split_of, can_pack, pack_of, union}
 use Rattle.enc_modes.specs.Parting.{times, alike, balanced, parted}
 use Rattle.enc_modes.proofs.Sorting.{lt_tells, of_key, ascends_sorted, of_key_sorted, same_ascending}
 use Rattle.enc_modes.proofs.Tells.{alt_tells, and_left, and_right, and_true}
+use Rattle.enc_modes.proofs.Distinct.{all_join_is}
 use Rattle.enc_modes.proofs.Parting.{times_cons, all_true}
 
 -- ---- elements
@@ -330,13 +331,214 @@ parted_order whole left right d s h = same_order (sorted (λ a. a.number)) place
     (λ g h i e. alike_sorted g h (distinct_in whole g d i) e)
     (λ g i. (Decides-eqb (times alike g whole) (times alike g left + times alike g right)).0 (all_at (balanced whole left right) (whole ++ (left ++ right)) g h i) ∙ sym (times_append alike g left right))
 
--- the last of four tests
+-- ---- the parts
+
+-- one that is like it is counted
+counted : {A : Type 0} (like : A → A → Bool) (x y : A) → like x y ≡ true → (ys : List A) → In y ys → 0 < times like x ys
+counted like x y e [] i = absurd i
+counted like x y e (z ∷ ys) i =
+    let c = times_cons like x z ys in
+    elim i [
+      | inl q ↦ let b : like x z ≡ true = subst (λ w. like x w ≡ true) (sym q) e in let d : cond {A = ℕ} (like x z) 1 0 ≡ 1 = ap (λ w. cond {A = ℕ} w 1 0) b in omega arith
+      | inr j ↦ let h = counted like x y e ys j in omega arith
+    ]
+
+-- a number of a group is that of one of its traits
+number_there : (g : Group) (n : ℕ) → contains (numbers g) n ≡ true → (a : Alt) × In a g × (a.number ≡ n)
+number_there [] n c = absurd (false≢true c)
+number_there (a ∷ g) n c = elim (eqb_tells a.number n) [
+  | inl w ↦ (a, inl refl, w.1)
+  | inr w ↦ let t = number_there g n (rw (w.0) at c) in (t.0, inr t.1, t.2)
+]
+
+-- groups that are alike have the same numbers
+alike_number : (g k : Group) (n : ℕ) → alike g k ≡ true → contains (numbers g) n ≡ true → contains (numbers k) n ≡ true
+alike_number g k n e c =
+    let t = number_there g n c in
+    let d = counterpart same_alt t.0 (alt_tells.itself t.0) k g (sym (alike_all g k e t.0)) t.1 in
+    let q : d.0.number ≡ n = sym (ap (λ a. a.number) (alt_tells.equal t.0 d.0 d.2)) ∙ t.2 in
+    subst (λ m. contains (numbers k) m ≡ true) q (has_number k d.0 d.1)
+
+-- a trait of all is one of a group
+trait_there : (gs : Cap) (n : ℕ) → contains (traits_of gs) n ≡ true → (g : Group) × In g gs × (contains (numbers g) n ≡ true)
+trait_there [] n c = absurd (false≢true c)
+trait_there (g ∷ gs) n c = go (contains (numbers g) n) refl (sym (contains_append (numbers g) (traits_of gs) n) ∙ c) (trait_there gs n)
+  where
+    go : (b : Bool) → contains (numbers g) n ≡ b → (contains (numbers g) n || contains (traits_of gs) n) ≡ true → (contains (traits_of gs) n ≡ true → (k : Group) × In k gs × (contains (numbers k) n ≡ true)) → (k : Group) × In k (g ∷ gs) × (contains (numbers k) n ≡ true)
+    go true e d r = (g, inl refl, e)
+    go false e d r = let t = r (rw (e) at d) in (t.0, inr t.1, t.2)
+
+-- the group of a trait
+trait_unique : (gs : Cap) → distinct (traits_of gs) ≡ true → (g h : Group) (n : ℕ) → In g gs → In h gs → contains (numbers g) n ≡ true → contains (numbers h) n ≡ true → g ≡ h
+trait_unique [] d g h n i j c e = absurd i
+trait_unique (k ∷ gs) d g h n i j c e = elim i [
+  | inl p ↦ elim j [
+    | inl q ↦ sym p ∙ q
+    | inr l ↦ absurd (apart (numbers k) (traits_of gs) n d (subst (λ z. contains (numbers z) n ≡ true) (sym p) c) (trait_in gs h n l e))
+  ]
+  | inr m ↦ elim j [
+    | inl q ↦ absurd (apart (numbers k) (traits_of gs) n d (subst (λ z. contains (numbers z) n ≡ true) (sym q) e) (trait_in gs g n m c))
+    | inr l ↦ trait_unique gs (distinct_right (numbers k) (traits_of gs) d) g h n m l c e
+  ]
+]
+
+-- no group is there twice
+once : (gs : Cap) → distinct (traits_of gs) ≡ true → list_all some_trait gs ≡ true → (g : Group) → times alike g gs ≤ 1
+once [] d s g = omega arith
+once (k ∷ gs) d s g =
+    let c = times_cons alike g k gs in
+    let r = once gs (distinct_right (numbers k) (traits_of gs) d) (and_right (some_trait k) (list_all some_trait gs) s) g in
+    go (alike g k) refl c r
+  where
+    none : alike g k ≡ true → filter (alike g) gs ≡ []
+    none e = elim (some_passes (alike g) gs) [
+      | inl t ↦ absurd (
+          let f : alike k t.0 ≡ true = alike_join k t.0 g (alike_join k g k (alike_own k) e) (alike_join t.0 g t.0 (alike_own t.0) t.2) in
+          let n : ℕ = place_of (sorted (λ a. a.number) k) in
+          let i = place_in k (and_left (some_trait k) (list_all some_trait gs) s) in
+          apart (numbers k) (traits_of gs) n d i (trait_in gs t.0 n t.1 (alike_number k t.0 n f i)))
+      | inr n ↦ n
+    ]
+
+    go : (b : Bool) → alike g k ≡ b → times alike g (k ∷ gs) ≡ cond {A = ℕ} (alike g k) 1 0 + times alike g gs → times alike g gs ≤ 1 → times alike g (k ∷ gs) ≤ 1
+    go true e c r = let z = ap length (none e) in let q : cond {A = ℕ} (alike g k) 1 0 ≡ 1 = ap (λ w. cond {A = ℕ} w 1 0) e in omega arith
+    go false e c r = let q : cond {A = ℕ} (alike g k) 1 0 ≡ 0 = ap (λ w. cond {A = ℕ} w 1 0) e in omega arith
+
+-- a group that is like one trait is that trait
+alike_one : (a : Alt) (k : Group) → distinct (numbers k) ≡ true → alike (a ∷ []) k ≡ true → k ≡ a ∷ []
+alike_one a k d e = go k d (λ b i. is_a b (counterpart same_alt b (alt_tells.itself b) (a ∷ []) k (alike_all (a ∷ []) k e b) i)) (counted same_alt a a (alt_tells.itself a) (a ∷ []) (inl refl)) (alike_all (a ∷ []) k e a)
+  where
+    is_a : (b : Alt) → (x : Alt) × In x (a ∷ []) × (same_alt b x ≡ true) → b ≡ a
+    is_a b t = alt_tells.equal b t.0 t.2 ∙ elim (t.1) [ inl q ↦ sym q | inr j ↦ absurd j ]
+
+    go : (h : Group) → distinct (numbers h) ≡ true → ((b : Alt) → In b h → b ≡ a) → 0 < times same_alt a (a ∷ []) → times same_alt a (a ∷ []) ≡ times same_alt a h → h ≡ a ∷ []
+    go [] d u s t = absurd (omega arith)
+    go (b ∷ []) d u s t = ap (λ z. z ∷ []) (u b (inl refl))
+    go (b ∷ c ∷ h) d u s t =
+        let q : b.number ≡ c.number = ap (λ z. z.number) (u b (inl refl) ∙ sym (u c (inr (inl refl)))) in
+        absurd (apart (b.number ∷ []) (numbers (c ∷ h)) b.number d (rw (eq-eqb b.number b.number refl) refl) (rw (q) (has_number (c ∷ h) c (inl refl))))
+
+-- all but one trait alone are linear
+part_linear : (part : Cap) → ((a : Alt) → part ≡ (a ∷ []) ∷ [] → linear_mode a.mode ≡ true) → linear_mode (mode_of part) ≡ true
+part_linear [] h = refl
+part_linear ((a ∷ []) ∷ []) h = h a refl
+part_linear ([] ∷ []) h = refl
+part_linear ((a ∷ b ∷ g) ∷ []) h = refl
+part_linear ([] ∷ k ∷ gs) h = refl
+part_linear ((a ∷ []) ∷ k ∷ gs) h = refl
+part_linear ((a ∷ b ∷ g) ∷ k ∷ gs) h = refl
+
+-- one group is there at least
+first_there : (gs : Cap) → some_group gs ≡ true → (g : Group) × In g gs
+first_there [] s = absurd (false≢true s)
+first_there (g ∷ gs) s = (g, inl refl)
+
+all_join_at : (gs : Cap) (g : Group) → all_join gs ≡ true → In g gs → can_join g ≡ true
+all_join_at gs g h i = all_at can_join gs g (all_join_is gs ∙ h) i
+
+-- numbers that overlap share one
+overlap_there : (ms ns : List ℕ) → overlap ms ns ≡ true → (n : ℕ) × (contains ms n ≡ true) × (contains ns n ≡ true)
+overlap_there [] ns h = absurd (false≢true h)
+overlap_there (m ∷ ms) ns h = go (contains ns m) refl h (overlap_there ms ns)
+  where
+    later : (c : Bool) → (c || true) ≡ true
+    later true = refl
+    later false = refl
+
+    go : (b : Bool) → contains ns m ≡ b → (b || overlap ms ns) ≡ true → (overlap ms ns ≡ true → (n : ℕ) × (contains ms n ≡ true) × (contains ns n ≡ true)) → (n : ℕ) × (contains (m ∷ ms) n ≡ true) × (contains ns n ≡ true)
+    go true e q r = (m, rw (eq-eqb m m refl) refl, e)
+    go false e q r = let t = r q in (t.0, rw (t.1) (later (m == t.0)), t.2)
+
+module _ (whole left right : Cap) (distinct_all : distinct (traits_of whole) ≡ true) (joined : joins whole ≡ true) (named : list_all some_trait whole ≡ true) (balance : (g : Group) → In g (whole ++ (left ++ right)) → times alike g whole ≡ times alike g left + times alike g right) (some_left : some_group left ≡ true) (some_right : some_group right ≡ true) where
+  -- no group of the left part is like one of the right
+  not_both : (g h : Group) → In g left → In h right → alike g h ≡ true → ⊥
+  not_both g h i j e =
+      let b = balance g (in_right whole (left ++ right) g (in_left left right g i)) in
+      let l = counted alike g g (alike_own g) left i in
+      let r = counted alike g h e right j in
+      let o = once whole distinct_all named g in
+      omega arith
+
+  -- each group of a part has one like it in the whole
+  left_whole : (g : Group) → In g left → (k : Group) × In k whole × (alike g k ≡ true)
+  left_whole g i = elim (some_passes (alike g) whole) [
+    | inl t ↦ t
+    | inr n ↦ absurd (
+        let z = ap length n in
+        let b = balance g (in_right whole (left ++ right) g (in_left left right g i)) in
+        let l = counted alike g g (alike_own g) left i in
+        omega arith)
+  ]
+
+  right_whole : (g : Group) → In g right → (k : Group) × In k whole × (alike g k ≡ true)
+  right_whole g i = elim (some_passes (alike g) whole) [
+    | inl t ↦ t
+    | inr n ↦ absurd (
+        let z = ap length n in
+        let b = balance g (in_right whole (left ++ right) g (in_right left right g i)) in
+        let l = counted alike g g (alike_own g) right i in
+        omega arith)
+  ]
+
+  -- the whole has more than one group, so that each of them can stand beside others
+  can_join_at : (k : Group) → In k whole → can_join k ≡ true
+  can_join_at k i =
+      let g = first_there left some_left in
+      let h = first_there right some_right in
+      go whole joined k i g.0 h.0 (left_whole g.0 g.1) (right_whole h.0 h.1) (not_both g.0 h.0 g.1 h.1)
+    where
+      go : (gs : Cap) → joins gs ≡ true → (x : Group) → In x gs → (g h : Group) → (l : Group) × In l gs × (alike g l ≡ true) → (r : Group) × In r gs × (alike h r ≡ true) → (alike g h ≡ true → ⊥) → can_join x ≡ true
+      go [] w x i g h l r n = absurd i
+      go (k ∷ []) w x i g h l r n = absurd (
+          let p : l.0 ≡ k = elim (l.1) [ inl q ↦ sym q | inr j ↦ absurd j ] in
+          let q : r.0 ≡ k = elim (r.1) [ inl q ↦ sym q | inr j ↦ absurd j ] in
+          n (alike_join g h k (subst (λ z. alike g z ≡ true) p l.2) (subst (λ z. alike h z ≡ true) q r.2)))
+      go (k ∷ m ∷ gs) w x i g h l r n = all_join_at (k ∷ m ∷ gs) x w i
+
+  -- a trait alone is linear
+  lone_linear : (a : Alt) → (k : Group) × In k whole × (alike (a ∷ []) k ≡ true) → linear_mode a.mode ≡ true
+  lone_linear a t =
+      let e : t.0 ≡ a ∷ [] = alike_one a t.0 (distinct_in whole t.0 distinct_all t.1) t.2 in
+      subst (λ z. can_join z ≡ true) e (can_join_at t.0 t.1)
+
+  -- so the parts can be packed
+  parts_pack : can_pack left right ≡ true
+  parts_pack = and_true (linear_mode (mode_of left)) (linear_mode (mode_of right) && not (overlap (traits_of left) (traits_of right)))
+      (part_linear left (λ a e. lone_linear a (left_whole (a ∷ []) (rw e (inl refl)))))
+      (and_true (linear_mode (mode_of right)) (not (overlap (traits_of left) (traits_of right)))
+      (part_linear right (λ a e. lone_linear a (right_whole (a ∷ []) (rw e (inl refl)))))
+      (go (overlap (traits_of left) (traits_of right)) refl))
+    where
+      go : (b : Bool) → overlap (traits_of left) (traits_of right) ≡ b → not b ≡ true
+      go false e = refl
+      go true e = absurd (
+          let t = overlap_there (traits_of left) (traits_of right) e in
+          let g = trait_there left t.0 t.1 in
+          let h = trait_there right t.0 t.2 in
+          let k = left_whole g.0 g.1 in
+          let l = right_whole h.0 h.1 in
+          let q : k.0 ≡ l.0 = trait_unique whole distinct_all k.0 l.0 t.0 k.1 l.1 (alike_number g.0 k.0 t.0 k.2 g.2) (alike_number h.0 l.0 t.0 l.2 h.2) in
+          not_both g.0 h.0 g.1 h.1 (alike_join g.0 h.0 l.0 (subst (λ z. alike g.0 z ≡ true) q k.2) l.2))
+
+-- the second of four tests
+and_second : (a b c d : Bool) → (a && (b && (c && d))) ≡ true → b ≡ true
+and_second a b c d h = and_left b (c && d) (and_right a (b && (c && d)) h)
+
+-- the third
+and_third : (a b c d : Bool) → (a && (b && (c && d))) ≡ true → c ≡ true
+and_third a b c d h = and_left c d (and_right b (c && d) (and_right a (b && (c && d)) h))
+
+-- the last
 and_last : (a b c d : Bool) → (a && (b && (c && d))) ≡ true → d ≡ true
 and_last a b c d h = and_right c d (and_right b (c && d) (and_right a (b && (c && d)) h))
 
 -- the whole of a split is, in order, what its parts pack to
-pub split_is_packed : (whole left right : Cap) → IsTrue (composes whole) → IsTrue (list_all some_trait whole) → IsTrue (split_of whole left right) → IsTrue (can_pack left right) → pack_of left right ≡ Some (in_order whole)
+pub split_is_packed : (whole left right : Cap) → IsTrue (composes whole) → IsTrue (list_all some_trait whole) → IsTrue (split_of whole left right) → pack_of left right ≡ Some (in_order whole)
 unfolding composes split_of pack_of
-split_is_packed whole left right c s h p =
-    let e : in_order whole ≡ union left right = parted_order whole left right (and_left (distinct (traits_of whole)) (joins whole) c) s (and_last (linear_mode (mode_of whole)) (some_group left) (some_group right) (parted whole left right) h) in
-    rw (p) (ap Some (sym e))
+split_is_packed whole left right c s h =
+    let d : distinct (traits_of whole) ≡ true = and_left (distinct (traits_of whole)) (joins whole) c in
+    let j : joins whole ≡ true = and_right (distinct (traits_of whole)) (joins whole) c in
+    let q : parted whole left right ≡ true = and_last (linear_mode (mode_of whole)) (some_group left) (some_group right) (parted whole left right) h in
+    let balance : (g : Group) → In g (whole ++ (left ++ right)) → times alike g whole ≡ times alike g left + times alike g right = λ g i. (Decides-eqb (times alike g whole) (times alike g left + times alike g right)).0 (all_at (balanced whole left right) (whole ++ (left ++ right)) g q i) in
+    let p : can_pack left right ≡ true = parts_pack whole left right d j s balance (and_second (linear_mode (mode_of whole)) (some_group left) (some_group right) (parted whole left right) h) (and_third (linear_mode (mode_of whole)) (some_group left) (some_group right) (parted whole left right) h) in
+    rw (p) (ap Some (sym (parted_order whole left right d s q)))

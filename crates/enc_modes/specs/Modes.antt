@@ -84,10 +84,12 @@ joins _ = true
 unfoldable pub composes : Cap → Bool
 composes gs = distinct (traits_of gs) && joins gs
 
+-- it has a trait
 abbrev pub some_trait : Group → Bool
 some_trait [] = false
 some_trait (a ∷ alts) = true
 
+-- it has a group
 abbrev pub some_group : Cap → Bool
 some_group [] = false
 some_group (g ∷ gs) = true

@@ -20,8 +20,8 @@ pub fn split_of(whole: &Cap, left: &Cap, right: &Cap) -> bool
         && are_parted(whole.as_slice(), left.as_slice(), right.as_slice())
 }
 
-// Whether the groups of the whole are those of both parts. Where the parts stand in it in order, one
-// walk tells.
+// Whether the groups of the whole are those of both parts. Mostly the parts stand in it in its own
+// order, and one walk tells.
 fn are_parted(whole: &[Group], left: &[Group], right: &[Group]) -> bool
     ensures { result ≡ spec.parted whole.now left.now right.now }
 {

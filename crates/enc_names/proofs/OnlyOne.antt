@@ -1,12 +1,13 @@
 -- Finding one place after another comes to taking the only one of all.
-use Rattle.std.proofs.Common.{◌≡◌, ℕ, ◌+◌, ◌<◌, ◌≤◌, List, [], ◌∷◌, ◌++◌, length, drop, Option, Some, None, refl, ap, ◌∙◌, slice_index_or}
+use Rattle.std.proofs.Common.{◌≡◌, ◌&&◌, Bool, true, false, cond, ℕ, ◌+◌, ◌<◌, ◌≤◌, List, [], ◌∷◌, ◌++◌, length, drop, Option, Some, None, refl, ap, ◌∙◌, slice_index_or}
 use Rattle.std.specs.Prelude.{filter_map, flat_map}
 use Rattle.std.specs.List.{cons_option}
 use Rattle.enc_premises.proofs.Loops.{drop_at, drop_all}
+use Rattle.enc_types.specs.Words.{every}
 use Rattle.enc_names.specs.declared.members.MethodId.{MethodId}
 use Rattle.enc_names.specs.declared.finding.Found.{Found}
 use Rattle.enc_names.specs.declared.finding.Found.TheVariants.{Nothing, One, Several}
-use Rattle.enc_names.specs.Lookups.{only}
+use Rattle.enc_names.specs.Lookups.{same_method, only}
 use Rattle.enc_names.specs.Finding.{more, find_all, one_of}
 
 -- behind those of two lists it is found as behind the first, then the second
@@ -24,16 +25,20 @@ find_all-several : (f : ℕ → Option MethodId) (ks : List ℕ) → find_all f 
 find_all-several f [] = refl
 find_all-several f (k ∷ ks) = ap (λ s. find_all f s ks) (more_several (f k)) ∙ find_all-several f ks
 
--- behind one that was found there may be no other
+-- behind one that was found there may be no other than it
 one_of-one : (f : ℕ → Option MethodId) (m : MethodId) (ks : List ℕ) → one_of (find_all f (One m) ks) ≡ only (m ∷ filter_map f ks)
 one_of-one f m [] = refl
 one_of-one f m (k ∷ ks) = go (f k) (one_of-one f m ks)
   where
+    behind : (n : MethodId) (b : Bool) → one_of (find_all f (One m) ks) ≡ only (m ∷ filter_map f ks) → one_of (find_all f (cond b (One m) Several) ks) ≡ cond (b && every (same_method m) (filter_map f ks)) (Some m) None
+    behind n true e = e
+    behind n false e = ap one_of (find_all-several f ks)
+
     go : (o : Option MethodId) → one_of (find_all f (One m) ks) ≡ only (m ∷ filter_map f ks) → one_of (find_all f (more (One m) o) ks) ≡ only (m ∷ cons_option o (filter_map f ks))
     go None e = e
-    go (Some n) e = ap one_of (find_all-several f ks)
+    go (Some n) e = behind n (same_method m n) e
 
--- one alone was found where there is exactly one
+-- one was found where all that there are are one
 pub one_of-find_all : (f : ℕ → Option MethodId) (ks : List ℕ) → one_of (find_all f Nothing ks) ≡ only (filter_map f ks)
 one_of-find_all f [] = refl
 one_of-find_all f (k ∷ ks) = go (f k) (one_of-find_all f ks)

@@ -9,10 +9,10 @@ use Rattle.enc_modes.specs.declared.ty.Ty.TheOpen.{Ty-F}
 use Rattle.enc_modes.specs.declared.ty.Ty.TheVariants as ty
 use Rattle.enc_modes.specs.declared.ty.Alt.{Alt}
 use Rattle.enc_modes.specs.Order.{Group}
-use Rattle.enc_types.specs.Words.{place_in}
+use Rattle.enc_types.specs.Words.{place_in, every}
 use Rattle.enc_names.specs.declared.members.MethodId.{MethodId}
 use Rattle.enc_names.specs.Members.{Tables}
-use Rattle.enc_names.specs.Lookups.{fields_of, field_of, methods_of, method_in, is_active, is_trait, trait_method, usable_in, owners_layer, owners_of, only, method_layer, method_for, sent_layer, sent_for}
+use Rattle.enc_names.specs.Lookups.{same_method, fields_of, field_of, methods_of, method_in, is_active, is_trait, trait_method, usable_in, owners_layer, owners_of, only, method_layer, method_for, sent_layer, sent_for}
 
 -- What is in this place has this name.
 abbrev Named : {A : Type 0} → (A → List ℕ) → List A → List ℕ → ℕ → Type 0
@@ -69,14 +69,20 @@ filter_map-there f (k ∷ ks) m ms h = go (f k) refl h (filter_map-there f ks m 
     go (Some n) e p r = let q : n ≡ m = grind arith in (k, (0, omega arith, refl), rw (← q) e)
 
 -- the only one is the first one
-only-first : {A : Type 0} (xs : List A) (x : A) → only xs ≡ Some x → xs ≡ x ∷ []
-only-first [] x h = absurd (grind arith)
-only-first (y ∷ []) x h = let q : y ≡ x = grind arith in ap (λ z. z ∷ []) q
-only-first (y ∷ z ∷ xs) x h = absurd (grind arith)
+only-first : (ms : List MethodId) (m : MethodId) → only ms ≡ Some m → (ns : List MethodId) × (ms ≡ m ∷ ns)
+only-first [] m h = absurd (grind arith)
+only-first (n ∷ ns) m h = go (every (same_method n) ns) h
+  where
+    go : (b : Bool) → cond b (Some n) None ≡ Some m → (os : List MethodId) × (n ∷ ns ≡ m ∷ os)
+    go true e = let q : n ≡ m = grind arith in (ns, ap (λ z. z ∷ ns) q)
+    go false e = absurd (grind arith)
 
 -- the method of groups is given by one of their usable traits
 given : (t : Tables) (gs : List Group) (x : List ℕ) (m : MethodId) → method_layer t x (Ty-F.Cap gs) ≡ Some m → Given (trait_method t x) (flat_map usable_in gs) m
-given t gs x m h = let ks = flat_map usable_in gs in filter_map-there (trait_method t x) ks m [] (only-first (filter_map (trait_method t x) ks) m h)
+given t gs x m h =
+    let ks = flat_map usable_in gs in
+    let p = only-first (filter_map (trait_method t x) ks) m h in
+    filter_map-there (trait_method t x) ks m p.0 p.1
 
 -- a field that is found is there
 pub field_exists : (t : Tables) (k : ℕ) (x : List ℕ) (i : ℕ) → field_of t k x ≡ Some i → Named (λ s. s.word) (fields_of t k) x i

@@ -1,14 +1,15 @@
 -- Methods that are found one after another.
-use Rattle.std.specs.Prelude.{ℕ, List, [], ◌∷◌, Option, Some, None}
+use Rattle.std.specs.Prelude.{ℕ, cond, List, [], ◌∷◌, Option, Some, None}
 use Rattle.enc_names.specs.declared.finding.Found.{Found}
 use Rattle.enc_names.specs.declared.finding.Found.TheVariants.{Nothing, One, Several}
 use Rattle.enc_names.specs.declared.members.MethodId.{MethodId}
+use Rattle.enc_names.specs.Lookups.{same_method}
 
 -- what was found, behind one more place that may have a method
 abbrev pub more : Found → Option MethodId → Found
 more s None = s
 more Nothing (Some m) = One m
-more (One n) (Some m) = Several
+more (One n) (Some m) = cond (same_method n m) (One n) Several
 more Several (Some m) = Several
 
 -- what was found, behind each of these places

@@ -1,5 +1,5 @@
 -- Look-ups in tables.
-use Rattle.std.specs.Prelude.{ℕ, Bool, true, false, cond, List, [], ◌∷◌, map, filter, filter_map, flat_map, Option, Some, None, option_map, option_and_then, slice_get}
+use Rattle.std.specs.Prelude.{◌==◌, ◌&&◌, ℕ, Bool, true, false, cond, List, [], ◌∷◌, map, filter, filter_map, flat_map, Option, Some, None, option_map, option_and_then, slice_get}
 use Rattle.enc_modes.specs.declared.ty.Ty.{Ty, out-Ty}
 use Rattle.enc_modes.specs.declared.ty.Ty.TheOpen.{Ty-F}
 use Rattle.enc_modes.specs.declared.ty.Ty.TheVariants as ty
@@ -7,7 +7,7 @@ use Rattle.enc_modes.specs.Order.{Group}
 use Rattle.enc_modes.specs.Modes.{linear_mode}
 use Rattle.enc_types.specs.declared.names.Meaning.{Meaning}
 use Rattle.enc_types.specs.declared.names.Meaning.TheVariants as is
-use Rattle.enc_types.specs.Words.{place_in}
+use Rattle.enc_types.specs.Words.{place_in, every}
 use Rattle.enc_types.specs.Names.{Names, found}
 use Rattle.enc_names.specs.declared.members.Slot.{Slot}
 use Rattle.enc_names.specs.declared.members.Signature.{Signature}
@@ -88,10 +88,13 @@ owners_layer _ = []
 unfoldable pub owners_of : Ty → List ℕ
 owners_of t = owners_layer (out-Ty t)
 
--- the one that there is, where there is exactly one
-abbrev pub only : {A : Type 0} → List A → Option A
-only (x ∷ []) = Some x
-only _ = None
+abbrev pub same_method : MethodId → MethodId → Bool
+same_method m n = (m.owner == n.owner) && (m.index == n.index)
+
+-- the method that all of these are, where there are some and they are one
+abbrev pub only : List MethodId → Option MethodId
+only [] = None
+only (m ∷ ms) = cond (every (same_method m) ms) (Some m) None
 
 abbrev pub method_layer : Tables → List ℕ → Ty-F Ty → Option MethodId
 method_layer t x (Ty-F.Actor k) = active_method t x k

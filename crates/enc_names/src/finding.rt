@@ -20,6 +20,7 @@ impl Found {
         match (method, self) {
             (None, _) => self,
             (Some(method), Found::Nothing) => Found::One(method),
+            (Some(method), Found::One(found)) if method == found => self,
             _ => Found::Several,
         }
     }

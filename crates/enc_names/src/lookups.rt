@@ -82,8 +82,8 @@ impl Tables {
     }
 
     /// The method of this name that can be called on a receiver of the type, or `None` where there is
-    /// none, or several. Where an `Actor` has the number of no active class, or an `Alt` that of no
-    /// trait, nothing is found there. It takes no memory.
+    /// none, or several. A trait that stands twice has its method once. Where an `Actor` has the number
+    /// of no active class, or an `Alt` that of no trait, nothing is found there. It takes no memory.
     #[tactic(auto, unfolding(crate::specs::Lookups::method_for))]
     pub fn method(&self, ty: &Ty, name: &str) -> Option<MethodId>
         ensures { result ≡ spec.method_for self.now ty.now name.now }
