@@ -1,4 +1,5 @@
 pub mod Agree
+pub mod Ascending
 pub mod Distinct
 pub mod Each
 pub mod Repacked
@@ -6,4 +7,5 @@ pub mod Same
 pub mod Parting
 pub mod Sorting
 pub mod Tells
+pub mod Times
 pub mod Equal

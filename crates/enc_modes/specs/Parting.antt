@@ -1,7 +1,7 @@
 -- Groups parted in two, in whatever order they and their traits stand.
-use Rattle.std.specs.Prelude.{◌==◌, ℕ, ◌+◌, Bool, List, ◌++◌, length, filter}
+use Rattle.std.specs.Prelude.{◌==◌, ℕ, nat_lt, ◌+◌, Bool, true, ◌&&◌, List, ◌∷◌, ◌++◌, length, filter}
 use Rattle.std.specs.List.{list_all}
-use Rattle.enc_modes.specs.Order.{Group, Cap}
+use Rattle.enc_modes.specs.Order.{Group, Cap, place_of}
 use Rattle.enc_modes.specs.Equality.{same_alt}
 
 -- how many of them are like x
@@ -19,3 +19,12 @@ balanced whole left right g = times alike g whole == times alike g left + times 
 -- each group of the three does
 abbrev pub parted : Cap → Cap → Cap → Bool
 parted whole left right = list_all (balanced whole left right) (whole ++ (left ++ right))
+
+-- each key is above the one before it
+abbrev pub ascends : {A : Type 0} → (A → ℕ) → List A → Bool
+ascends key (x ∷ y ∷ ys) = nat_lt (key x) (key y) && ascends key (y ∷ ys)
+ascends key _ = true
+
+-- groups ascend by their places, and the traits of each by their numbers
+abbrev pub ordered : Cap → Bool
+ordered gs = ascends place_of gs && list_all (ascends (λ a. a.number)) gs

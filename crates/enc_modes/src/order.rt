@@ -39,7 +39,7 @@ fn group_in_order(group: Group) -> Result<Group, AllocError>
 }
 
 // The number by which a group in order has its place.
-fn place_of(group: &Group) -> u32
+pub(crate) fn place_of(group: &Group) -> u32
     ensures { result ≡ spec.place_of group.now }
 {
     match group.as_slice() {

@@ -1,11 +1,13 @@
 // A capability type parted in two.
-ghost use Rattle.std.specs.Prelude.{◌≡◌, ◌==◌, ◌≤◌, ◌+◌, ◌∷◌, true, length, IfSome};
+ghost use Rattle.std.specs.Prelude.{◌≡◌, ◌==◌, ◌≤◌, ◌+◌, ◌∷◌, true, length, MatchOption};
 ghost use Rattle.std.specs.List.{list_all};
 ghost use Rattle.enc_modes.specs.Equality.{same_alt as same};
 ghost use Rattle.enc_modes.specs.Modes as modes;
+ghost use Rattle.enc_modes.specs.Order.{Cap as Groups, place_of as place};
 ghost use Rattle.enc_modes.specs.Parting as spec;
 
 use crate::equality::{same_alt, same_group};
+use crate::order::place_of;
 use crate::{Alt, Cap, Group, Mode, mode_of};
 
 /// Whether the whole is linear, and the other two are its groups parted, neither without a group. The
@@ -20,18 +22,50 @@ pub fn split_of(whole: &Cap, left: &Cap, right: &Cap) -> bool
         && are_parted(whole.as_slice(), left.as_slice(), right.as_slice())
 }
 
-// Whether the groups of the whole are those of both parts. Mostly the parts stand in it in its own
-// order, and one walk tells.
+// Whether the groups of the whole are those of both parts. Where all three stand in order, as in texts,
+// one walk tells.
 fn are_parted(whole: &[Group], left: &[Group], right: &[Group]) -> bool
     ensures { result ≡ spec.parted whole.now left.now right.now }
 {
-    interleave(whole, left, right) || balance(whole, left, right)
+    if are_ordered(whole) && are_ordered(left) && are_ordered(right) {
+        interleave(whole, left, right)
+    } else {
+        balance(whole, left, right)
+    }
+}
+
+// Whether groups ascend by their places, and the traits of each by their numbers.
+fn are_ordered(groups: &[Group]) -> bool
+    ensures { result ≡ spec.ordered groups.now }
+{
+    groups_ascend(groups) && each_ascends(groups)
+}
+
+fn groups_ascend(groups: &[Group]) -> bool
+    ensures { result ≡ spec.ascends place groups.now }
+{
+    groups.is_sorted_by(|left, right| place_of(left) < place_of(right))
+}
+
+fn each_ascends(groups: &[Group]) -> bool
+    ensures { result ≡ list_all (spec.ascends (λ alt. alt.number)) groups.now }
+{
+    groups.iter().all(|group| alts_ascend(group.as_slice()))
+}
+
+fn alts_ascend(alts: &[Alt]) -> bool
+    ensures { result ≡ spec.ascends (λ alt. alt.number) alts.now }
+{
+    alts.is_sorted_by(|left, right| left.number < right.number)
 }
 
 // Whether each group of the whole is the next one of a part, until both are used up.
 #[tactic(auto, using(crate::proofs::Parting::walk))]
 fn interleave(whole: &[Group], left: &[Group], right: &[Group]) -> bool
-    ensures { result ≡ true → spec.parted whole.now left.now right.now ≡ true }
+    requires whole { spec.ordered whole.now ≡ true }
+    requires left { spec.ordered left.now ≡ true }
+    requires right { spec.ordered right.now ≡ true }
+    ensures { result ≡ spec.parted whole.now left.now right.now }
 {
     let mut lefts = left;
     let mut rights = right;
@@ -48,12 +82,15 @@ fn interleave(whole: &[Group], left: &[Group], right: &[Group]) -> bool
 }
 
 // What stands behind the group, where it is the first.
+#[tactic(auto, using(crate::proofs::Parting::first))]
 fn behind<'a>(group: &Group, groups: &'a [Group]) -> Option<&'a [Group]>
-    ensures { IfSome result (λ rest. groups.now ≡ group.now ∷ rest.now) }
+    ensures { MatchOption result ((rest : Groups) → groups.now ≡ group.now ∷ rest → ⊥) (λ rest. groups.now ≡ group.now ∷ rest.now) }
 {
-    match groups {
-        [first, ..] if same_group(first.as_slice(), group.as_slice()) => Some(&groups[1..]),
-        _ => None,
+    let (first, rest) = groups.split_first()?;
+    if same_group(first.as_slice(), group.as_slice()) {
+        Some(rest)
+    } else {
+        None
     }
 }
 

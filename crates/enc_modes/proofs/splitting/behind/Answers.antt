@@ -1,6 +1,6 @@
-use Rattle.std.proofs.Common.{arith, rules}
-use Rattle.enc_modes.proofs.Parting.{behind_first}
+use Rattle.std.proofs.Common.{rules}
+use Rattle.enc_modes.proofs.Parting.{first_not}
 use Rattle.enc_modes.proofs.splitting.behind.Goals as goal
 
-pub returns-in-len1-up : goal.returns-in-len1-up
-returns-in-len1-up c = behind_first c.args.groups.now c.first-item.result c.args.group.now (omega arith) c.first-item.is (search rules)
+pub returns-else-same_group : goal.returns-else-same_group
+returns-else-same_group c = first_not c.args.groups.now c.in_ok-first.rest.now c.in_ok-first.first.now c.args.group.now c.in_ok-first.ensures.cases (search rules)
