@@ -1,10 +1,10 @@
 // Look-ups in the tables of a program.
 
 use enc_ast::{Decl, Program, TypeText};
-use enc_modes::{Alt, Mode, Ty};
+use enc_modes::{Alt, Cap, Group, Mode, Ty};
 use enc_names::{MethodId, Tables, tables};
 use enc_parse::parse;
-use std::alloc::Global;
+use std::alloc::{AllocError, Global};
 use std::test::Fail;
 
 /// Declarations 0 to 7: four traits, a function, a class of passive objects and two active classes.
@@ -111,6 +111,41 @@ fn methods_are_found_by_types(rt: HostRuntime) -> Result<(), Fail> {
         Some(MethodId { owner: 6, index: 0 })
     );
     assert_eq!(rt; tables.method(&Ty::Int, "up"), None);
+    Ok(())
+}
+
+/// A type with a group of this trait alone, as often as is asked.
+fn alone(alloc: Global, alt: Alt, times: usize) -> Result<Ty, AllocError> {
+    let mut groups = Cap::new(alloc);
+    for _ in 0..times {
+        let mut group = Group::new(alloc);
+        group.push(alt)?;
+        groups.push(group)?;
+    }
+    Ok(Ty::Cap(groups))
+}
+
+#[test]
+fn methods_are_of_what_is_declared(rt: HostRuntime) -> Result<(), Fail> {
+    let alloc = rt.alloc();
+    let tables = found(alloc)?;
+    for number in [0, 4, 5, 8] {
+        assert_eq!(rt; tables.method(&Ty::Actor(number), "up"), None);
+        assert_eq!(rt; tables.sent_method(&Ty::Actor(number), "up"), None);
+    }
+    let active = alt(6, Mode::Local);
+    assert_eq!(rt; tables.method(&alone(alloc, active, 1)?, "put"), None);
+    assert_eq!(rt; tables.sent_method(&Ty::Bestowed(active), "put"), None);
+    Ok(())
+}
+
+#[test]
+fn a_trait_that_stands_twice_has_its_method_once(rt: HostRuntime) -> Result<(), Fail> {
+    let alloc = rt.alloc();
+    let tables = found(alloc)?;
+    let twice = alone(alloc, alt(0, Mode::Linear), 2)?;
+    let up = MethodId { owner: 0, index: 0 };
+    assert_eq!(rt; tables.method(&twice, "up"), Some(up));
     Ok(())
 }
 

@@ -137,6 +137,44 @@ fn types_are_split_and_packed(rt: HostRuntime) -> Result<(), Fail> {
 }
 
 #[test]
+fn the_order_of_groups_and_traits_makes_no_difference(rt: HostRuntime) -> Result<(), Fail> {
+    let alloc = rt.alloc();
+    let whole = cap(alloc, "3 42 1")?;
+    assert!(rt; split_of(&whole, &cap(alloc, "1 3")?, &cap(alloc, "24")?));
+    assert!(rt;
+        split_of(
+            &cap(alloc, "1 24 3")?,
+            &cap(alloc, "42")?,
+            &cap(alloc, "3 1")?
+        )
+    );
+    assert!(rt; !split_of(&whole, &cap(alloc, "1 3")?, &cap(alloc, "2 4")?));
+    assert!(rt; !split_of(&whole, &cap(alloc, "1 1")?, &cap(alloc, "24")?));
+    Ok(())
+}
+
+#[test]
+fn parts_have_to_be_all_groups_of_the_whole(rt: HostRuntime) -> Result<(), Fail> {
+    let alloc = rt.alloc();
+    let whole = cap(alloc, "1 24 3")?;
+    for (left, right) in [
+        ("1", "24"),
+        ("1", "3"),
+        ("1 24", "24"),
+        ("1 24", "4"),
+        ("1 24", "34"),
+        ("1 24 3", "5"),
+        ("1 24", "3 5"),
+    ] {
+        assert!(rt;
+            !split_of(&whole, &cap(alloc, left)?, &cap(alloc, right)?),
+            "{left}, {right}"
+        );
+    }
+    Ok(())
+}
+
+#[test]
 fn one_trait_is_chosen(rt: HostRuntime) -> Result<(), Fail> {
     let alloc = rt.alloc();
     assert_eq!(rt; choose_of(&cap(alloc, "12")?, 2), Some(linear(2)));
