@@ -7,7 +7,7 @@ use enc_ast::{
     Span, StmtForm, TypeText, Word,
 };
 use enc_decls::judge;
-use enc_modes::{Alt, Mode, Ty};
+use enc_modes::{Alt, Cap, Mode, Ty};
 use enc_parse::parse;
 use enc_premises::demand;
 use enc_types::{Meaning, Names, Places, body_types, local_of};
@@ -52,11 +52,7 @@ fn alt(number: u32, mode: Mode) -> Alt {
 
 /// The type of one trait.
 fn one(alloc: Global, alt: Alt) -> Result<Ty, AllocError> {
-    let mut group = Row::new(alloc);
-    group.push(alt)?;
-    let mut groups = Row::new(alloc);
-    groups.push(group)?;
-    Ok(Ty::Cap(groups))
+    Ok(Ty::Cap(Cap::of_trait(alloc, alt)?))
 }
 
 /// The type of two linear traits, each a group of its own.
@@ -67,7 +63,7 @@ fn two(alloc: Global, first: u32, second: u32) -> Result<Ty, AllocError> {
         group.push(alt(number, Mode::Linear))?;
         groups.push(group)?;
     }
-    Ok(Ty::Cap(groups))
+    Ok(Ty::Cap(Cap::of(alloc, groups)?))
 }
 
 /// Whether a type is there and is the one that is due.

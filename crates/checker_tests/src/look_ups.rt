@@ -1,6 +1,6 @@
 // Look-ups in the tables of a program.
 
-use enc_ast::{Decl, Program, TypeText};
+use enc_ast::{Decl, Program, Row, TypeText};
 use enc_modes::{Alt, Cap, Group, Mode, Ty};
 use enc_names::{MethodId, Tables, tables};
 use enc_parse::parse;
@@ -116,13 +116,13 @@ fn methods_are_found_by_types(rt: HostRuntime) -> Result<(), Fail> {
 
 /// A type with a group of this trait alone, as often as is asked.
 fn alone(alloc: Global, alt: Alt, times: usize) -> Result<Ty, AllocError> {
-    let mut groups = Cap::new(alloc);
+    let mut groups = Row::new(alloc);
     for _ in 0..times {
         let mut group = Group::new(alloc);
         group.push(alt)?;
         groups.push(group)?;
     }
-    Ok(Ty::Cap(groups))
+    Ok(Ty::Cap(Cap::of(alloc, groups)?))
 }
 
 #[test]

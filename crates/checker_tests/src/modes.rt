@@ -2,8 +2,8 @@
 
 use enc_ast::Row;
 use enc_modes::{
-    Alt, Cap, Mode, Ty, choose_of, composes, copy_cap, in_order, is_linear, is_sendable,
-    is_shareable, mode_of, pack_of, split_of,
+    Alt, Cap, Group, Mode, Ty, choose_of, in_order, is_linear, is_sendable, is_shareable, mode_of,
+    pack_of, split_of,
 };
 use std::alloc::{AllocError, Global};
 use std::process::Abort;
@@ -15,7 +15,7 @@ fn linear(number: u32) -> Alt {
 }
 
 /// The groups that the text names: a digit is a linear trait, and groups stand between blanks.
-fn cap(alloc: Global, text: &str) -> Result<Cap, AllocError> {
+fn groups(alloc: Global, text: &str) -> Result<Row<Group>, AllocError> {
     let mut groups = Row::new(alloc);
     for word in text.split(' ') {
         groups.push(group(alloc, word)?)?;
@@ -23,7 +23,12 @@ fn cap(alloc: Global, text: &str) -> Result<Cap, AllocError> {
     Ok(groups)
 }
 
-fn group(alloc: Global, digits: &str) -> Result<Row<Alt>, AllocError> {
+/// A type of these groups.
+fn cap(alloc: Global, text: &str) -> Result<Cap, AllocError> {
+    Cap::of(alloc, groups(alloc, text)?)
+}
+
+fn group(alloc: Global, digits: &str) -> Result<Group, AllocError> {
     let mut group = Row::new(alloc);
     for digit in digits.bytes() {
         group.push(linear(u32::from(digit.saturating_sub(b'0'))))?;
@@ -33,11 +38,7 @@ fn group(alloc: Global, digits: &str) -> Result<Row<Alt>, AllocError> {
 
 /// The only group of a type of one trait.
 fn one(alloc: Global, mode: Mode) -> Result<Cap, AllocError> {
-    let mut group = Row::new(alloc);
-    group.push(Alt { number: 3, mode })?;
-    let mut groups = Row::new(alloc);
-    groups.push(group)?;
-    Ok(groups)
+    Cap::of_trait(alloc, Alt { number: 3, mode })
 }
 
 /// Asserts what the references of a type of one trait may do.
@@ -85,18 +86,20 @@ fn other_types_may_be_shared(rt: HostRuntime) {
 fn several_traits_are_linear(rt: HostRuntime) -> Result<(), Fail> {
     let alloc = rt.alloc();
     for text in ["12", "1 2", "12 3"] {
-        let groups = cap(alloc, text)?;
-        assert_eq!(rt; mode_of(&groups), Mode::Linear);
-        assert!(rt; composes(alloc, &groups)?);
+        let several = cap(alloc, text)?;
+        assert_eq!(rt; mode_of(&several), Mode::Linear);
+        assert!(rt; several.composes());
+        assert!(rt; several.share()?.composes());
     }
-    assert!(rt; !composes(alloc, &cap(alloc, "12 23")?)?);
+    assert!(rt; !cap(alloc, "12 23")?.composes());
+    assert!(rt; one(alloc, Mode::Read)?.composes());
     Ok(())
 }
 
 #[test]
 fn groups_are_put_in_order(rt: HostRuntime) -> Result<(), Fail> {
     let alloc = rt.alloc();
-    let sorted = Ty::Cap(in_order(cap(alloc, "5 42 3")?)?);
+    let sorted = Ty::Cap(in_order(alloc, groups(alloc, "5 42 3")?)?);
     assert!(rt; sorted.is(&Ty::Cap(cap(alloc, "24 3 5")?)));
     assert!(rt; !sorted.is(&Ty::Cap(cap(alloc, "42 3 5")?)));
     assert!(rt; sorted.copy(alloc)?.is(&sorted));
@@ -104,11 +107,11 @@ fn groups_are_put_in_order(rt: HostRuntime) -> Result<(), Fail> {
 }
 
 #[test]
-fn groups_are_copied(rt: HostRuntime) -> Result<(), Fail> {
+fn groups_are_shared(rt: HostRuntime) -> Result<(), Fail> {
     let alloc = rt.alloc();
-    let copied = Ty::Cap(copy_cap(alloc, &cap(alloc, "24 3 5")?)?);
-    assert!(rt; copied.is(&Ty::Cap(cap(alloc, "24 3 5")?)));
-    assert!(rt; !copied.is(&Ty::Cap(cap(alloc, "24 3")?)));
+    let shared = Ty::Cap(cap(alloc, "24 3 5")?.share()?);
+    assert!(rt; shared.is(&Ty::Cap(cap(alloc, "24 3 5")?)));
+    assert!(rt; !shared.is(&Ty::Cap(cap(alloc, "24 3")?)));
     Ok(())
 }
 
@@ -121,7 +124,7 @@ fn types_are_split_and_packed(rt: HostRuntime) -> Result<(), Fail> {
     assert!(rt; split_of(&whole, &left, &right));
     assert!(rt; split_of(&whole, &right, &left));
     assert!(rt; !split_of(&whole, &left, &left));
-    assert!(rt; !split_of(&whole, &whole, &Row::new(alloc)));
+    assert!(rt; !split_of(&whole, &whole, &Cap::of(alloc, Row::new(alloc))?));
     let Some(packed) = pack_of(alloc, &right, &left)? else {
         panic!(rt; "packed")
     };

@@ -1,22 +1,19 @@
 // Variables, and which of them were moved.
 
-use enc_ast::{Row, Word};
+use enc_ast::Word;
 use enc_flow::{Env, Scope};
-use enc_modes::{Alt, Mode, Ty};
+use enc_modes::{Alt, Cap, Mode, Ty};
 use std::alloc::{AllocError, Global};
 use std::process::Abort;
 use std::test::Fail;
 
 /// A type of one linear trait.
 fn linear(alloc: Global) -> Result<Ty, AllocError> {
-    let mut group = Row::new(alloc);
-    group.push(Alt {
+    let alt = Alt {
         number: 0,
         mode: Mode::Linear,
-    })?;
-    let mut groups = Row::new(alloc);
-    groups.push(group)?;
-    Ok(Ty::Cap(groups))
+    };
+    Ok(Ty::Cap(Cap::of_trait(alloc, alt)?))
 }
 
 /// Two linear variables, `x` and `y`, and an integer `k`.

@@ -1,6 +1,5 @@
 // The rules of bodies.
-ghost use Rattle.std.specs.Prelude.{◌≡◌, ◌++◌, map, IfOk, OnOk, [], ◌∷◌};
-ghost use Rattle.enc_modes.specs.declared.ty.Ty.TheVariants as ty;
+ghost use Rattle.std.specs.Prelude.{◌≡◌, ◌++◌, map, IfOk, OnOk};
 ghost use Rattle.enc_premises.specs.Premises.{each};
 ghost use Rattle.enc_premises.specs.Passing.{Passes, MemoryOnly};
 ghost use Rattle.enc_names.specs.Members.{type_or_unit as unit_or_type};
@@ -10,9 +9,9 @@ ghost use Rattle.enc_rules.specs.Programs as spec;
 use crate::returning::last_returns;
 use crate::stmts::in_order;
 use crate::variables::{add, declare};
-use enc_ast::{Decl, Fail, Method, Param, Row, Rule, TypeText, Word};
+use enc_ast::{Decl, Fail, Method, Param, Rule, TypeText, Word};
 use enc_flow::Scope;
-use enc_modes::{Alt, Ty};
+use enc_modes::{Alt, Cap, Ty};
 use enc_names::Tables;
 use enc_premises::demand;
 use enc_sources::Context;
@@ -131,26 +130,14 @@ fn this_type(alloc: Global, names: &Names, owner: u32) -> Result<Option<Ty>, All
         return Ok(None);
     };
     match named.is {
-        Meaning::Trait(mode) => Ok(Some(of_trait(
-            alloc,
-            Alt {
-                number: owner,
-                mode,
-            },
-        )?)),
+        Meaning::Trait(mode) => {
+            let number = owner;
+            let cap = Cap::of_trait(alloc, Alt { number, mode })?;
+            Ok(Some(Ty::Cap(cap)))
+        }
         Meaning::Active => Ok(Some(Ty::Actor(owner))),
         _ => Ok(None),
     }
-}
-
-fn of_trait(alloc: Global, alt: Alt) -> Result<Ty, AllocError>
-    ensures { IfOk result (λ t. t ≡ ty.Cap ((alt ∷ []) ∷ [])) }
-{
-    let mut group = Row::new(alloc);
-    group.push(alt)?;
-    let mut cap = Row::new(alloc);
-    cap.push(group)?;
-    Ok(Ty::Cap(cap))
 }
 
 // The type that is written, or `unit` where it stands for none.

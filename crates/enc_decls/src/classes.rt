@@ -11,7 +11,7 @@ ghost use Rattle.enc_decls.specs.Nodes as spec;
 use crate::groups::may_share;
 use crate::traits::Traits;
 use enc_ast::{ClassDecl, Decl, Fail, GroupText, Rule};
-use enc_modes::{Cap, Mode, composes, mode_of};
+use enc_modes::{Cap, Mode, mode_of};
 use enc_premises::demand;
 use enc_types::{Meaning, Names};
 use std::alloc::{AllocError, Global};
@@ -35,8 +35,7 @@ pub fn judge_class(
     each_group(alloc, decls, names, traits, class.groups.as_slice())?;
     demand(Rule::KName, class.span, new)?;
     let groups = groups_named(names, class.name.word.as_str());
-    let is_class = is_class(alloc, groups)?;
-    demand(Rule::KClass, class.span, is_class)
+    demand(Rule::KClass, class.span, is_class(groups))
 }
 
 #[tactic(auto, using(crate::proofs::Loops::rests))]
@@ -86,11 +85,11 @@ fn groups_named<'a>(names: &'a Names, name: &str) -> Option<&'a Cap>
 }
 
 #[tactic(auto, unfolding(crate::specs::Rules::is_class))]
-fn is_class(alloc: Global, groups: Option<&Cap>) -> Result<bool, AllocError>
-    ensures { IfOk result (λ it. it ≡ if_known rules.is_class (option_copied groups.entry)) }
+fn is_class(groups: Option<&Cap>) -> bool
+    ensures { result ≡ if_known rules.is_class (option_copied groups.entry) }
 {
     let Some(groups) = groups else {
-        return Ok(true);
+        return true;
     };
-    Ok(composes(alloc, groups)? && mode_of(groups) != Mode::Read)
+    groups.composes() && mode_of(groups) != Mode::Read
 }

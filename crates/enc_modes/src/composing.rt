@@ -4,20 +4,20 @@ ghost use Rattle.std.specs.List.{list_any};
 ghost use Rattle.indexmap.specs.IndexSet.{contains_by};
 ghost use Rattle.enc_modes.specs.Modes as spec;
 
-use crate::equality::copy_cap;
 use crate::order::in_order;
 use crate::{Alt, Cap, Group, Mode, mode_of};
+use enc_ast::Row;
 use indexmap::IndexSet;
 use std::alloc::{AllocError, Global};
 
 /// Whether the groups go together: no trait stands in them twice, and of several groups each is a linear
 /// trait or a disjunction. It takes memory, and answers `AllocError` where that runs out.
 #[tactic(auto, unfolding(crate::specs::Modes::composes))]
-pub fn composes(alloc: Global, cap: &Cap) -> Result<bool, AllocError>
-    ensures { IfOk result (λ yes. yes ≡ spec.composes cap.now) }
+pub(crate) fn compose(alloc: Global, groups: &[Group]) -> Result<bool, AllocError>
+    ensures { IfOk result (λ yes. yes ≡ spec.composes groups.now) }
 {
-    let numbers = traits_of(alloc, cap)?;
-    Ok(are_distinct(alloc, &numbers)? && joins(cap))
+    let numbers = traits_of(alloc, groups)?;
+    Ok(are_distinct(alloc, &numbers)? && joins(groups))
 }
 
 /// The groups of both in order, or `None` where they aren't both linear or share a trait. Where memory runs
@@ -29,12 +29,30 @@ pub fn pack_of(alloc: Global, left: &Cap, right: &Cap) -> Result<Option<Cap>, Al
     if mode_of(left) != Mode::Linear || mode_of(right) != Mode::Linear {
         return Ok(None);
     }
-    if overlap(alloc, left, right)? {
+    if overlap(alloc, left.as_slice(), right.as_slice())? {
         return Ok(None);
     }
-    let mut both = copy_cap(alloc, left)?;
-    both.append(copy_cap(alloc, right)?)?;
-    Ok(Some(in_order(both)?))
+    let mut both = copy_groups(alloc, left)?;
+    both.append(copy_groups(alloc, right)?)?;
+    Ok(Some(in_order(alloc, both)?))
+}
+
+fn copy_groups(alloc: Global, cap: &Cap) -> Result<Row<Group>, AllocError>
+    ensures { IfOk result (λ copied. copied ≡ cap.now) }
+{
+    let mut copied = Row::new(alloc);
+    for group in cap.as_slice() {
+        copied.push(copy_group(alloc, group)?)?;
+    }
+    Ok(copied)
+}
+
+fn copy_group(alloc: Global, group: &Group) -> Result<Group, AllocError>
+    ensures { IfOk result (λ copied. copied ≡ group.now) }
+{
+    let mut copied = Row::new(alloc);
+    copied.extend(group.as_slice())?;
+    Ok(copied)
 }
 
 /// The trait with the number, of a type that is one disjunction. It is `None` where the type is
@@ -60,10 +78,10 @@ fn alt_in(group: &[Alt], number: u32) -> Option<Alt>
     None
 }
 
-fn joins(cap: &Cap) -> bool
-    ensures { result ≡ spec.joins cap.now }
+fn joins(groups: &[Group]) -> bool
+    ensures { result ≡ spec.joins groups.now }
 {
-    cap.len() < 2 || all_join(cap.as_slice())
+    groups.len() < 2 || all_join(groups)
 }
 
 fn all_join(groups: &[Group]) -> bool
@@ -83,11 +101,11 @@ fn can_join(group: &Group) -> bool
 }
 
 // The traits of all groups, by their numbers.
-fn traits_of(alloc: Global, cap: &Cap) -> Result<Vec<u32>, AllocError>
-    ensures { IfOk result (λ numbers. numbers.items ≡ spec.traits_of cap.now) }
+fn traits_of(alloc: Global, groups: &[Group]) -> Result<Vec<u32>, AllocError>
+    ensures { IfOk result (λ numbers. numbers.items ≡ spec.traits_of groups.now) }
 {
     let mut numbers = Vec::new(alloc);
-    for group in cap.as_slice() {
+    for group in groups {
         add_numbers(&mut numbers, group.as_slice())?;
     }
     Ok(numbers)
@@ -118,7 +136,7 @@ fn are_distinct(alloc: Global, numbers: &[u32]) -> Result<bool, AllocError>
 
 // Whether some trait stands in both.
 #[tactic(auto, using(crate::proofs::Distinct::overlap_among))]
-fn overlap(alloc: Global, left: &Cap, right: &Cap) -> Result<bool, AllocError>
+fn overlap(alloc: Global, left: &[Group], right: &[Group]) -> Result<bool, AllocError>
     ensures { IfOk result (λ yes. yes ≡ spec.overlap (spec.traits_of left.now) (spec.traits_of right.now)) }
 {
     let seen = set_of(alloc, &traits_of(alloc, right)?)?;

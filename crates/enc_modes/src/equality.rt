@@ -2,8 +2,7 @@
 ghost use Rattle.std.specs.Prelude.{◌≡◌, IfOk};
 ghost use Rattle.enc_modes.specs.Equality as spec;
 
-use crate::{Alt, Cap, Group, Ty};
-use enc_ast::Row;
+use crate::{Alt, Group, Ty};
 use sqlite_items::Boxed;
 use std::alloc::{AllocError, Global};
 
@@ -28,7 +27,7 @@ impl Ty {
         }
     }
 
-    /// A copy of the type, or `AllocError` where memory runs out.
+    /// A copy of the type, which shares its groups, or `AllocError` where memory runs out.
     pub fn copy(&self, alloc: Global) -> Result<Ty, AllocError>
         ensures { IfOk result (λ copied. copied ≡ self.now) }
     {
@@ -38,32 +37,13 @@ impl Ty {
             Ty::Text => Ty::Text,
             Ty::Unit => Ty::Unit,
             Ty::Actor(class) => Ty::Actor(*class),
-            Ty::Cap(cap) => Ty::Cap(copy_cap(alloc, cap)?),
+            Ty::Cap(cap) => Ty::Cap(cap.share()?),
             Ty::Bestowed(alt) => Ty::Bestowed(*alt),
             Ty::Fut(inner) => Ty::Fut(Boxed::new(alloc, inner.get().copy(alloc)?)?),
             Ty::Par(inner) => Ty::Par(Boxed::new(alloc, inner.get().copy(alloc)?)?),
             Ty::List(inner) => Ty::List(Boxed::new(alloc, inner.get().copy(alloc)?)?),
         })
     }
-}
-
-/// A copy of a capability type, or `AllocError` where memory runs out.
-pub fn copy_cap(alloc: Global, cap: &Cap) -> Result<Cap, AllocError>
-    ensures { IfOk result (λ copied. copied ≡ cap.now) }
-{
-    let mut copied = Row::new(alloc);
-    for group in cap.as_slice() {
-        copied.push(copy_group(alloc, group)?)?;
-    }
-    Ok(copied)
-}
-
-fn copy_group(alloc: Global, group: &Group) -> Result<Group, AllocError>
-    ensures { IfOk result (λ copied. copied ≡ group.now) }
-{
-    let mut copied = Row::new(alloc);
-    copied.extend(group.as_slice())?;
-    Ok(copied)
 }
 
 /// Whether both have the same groups in the same order.

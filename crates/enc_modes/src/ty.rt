@@ -1,5 +1,6 @@
 // Types of values.
 
+use crate::Cap;
 use enc_ast::Row;
 use sqlite_items::Boxed;
 
@@ -21,9 +22,6 @@ pub struct Alt {
 
 /// One trait, or the traits of a disjunction in the order of their declarations.
 pub type Group = Row<Alt>;
-
-/// Groups in the order of the declarations of their first traits.
-pub type Cap = Row<Group>;
 
 /// The type of a value.
 #[cycle(ty)]

@@ -3,7 +3,6 @@ ghost use Rattle.std.specs.Prelude.{◌≡◌, IfOk, option_map};
 ghost use Rattle.std.specs.Option.{option_copied};
 ghost use Rattle.enc_rules.specs.Parts as spec;
 
-use enc_ast::Row;
 use enc_modes::{Alt, Cap, Mode, Ty, choose_of, mode_of, pack_of, split_of};
 use std::alloc::{AllocError, Global};
 
@@ -120,9 +119,5 @@ pub fn of_trait(alloc: Global, alt: Option<Alt>) -> Result<Option<Ty>, AllocErro
     let Some(alt) = alt else {
         return Ok(None);
     };
-    let mut group = Row::new(alloc);
-    group.push(alt)?;
-    let mut cap = Row::new(alloc);
-    cap.push(group)?;
-    Ok(Some(Ty::Cap(cap)))
+    Ok(Some(Ty::Cap(Cap::of_trait(alloc, alt)?)))
 }

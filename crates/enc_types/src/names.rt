@@ -1,7 +1,6 @@
 // Names of declarations.
-ghost use Rattle.std.specs.Prelude.{◌≡◌, ◌<◌, length, map, option_map, [], ◌∷◌, slice_get, IfOk, IfSome};
+ghost use Rattle.std.specs.Prelude.{◌≡◌, ◌<◌, length, map, option_map, slice_get, IfOk, IfSome};
 ghost use Rattle.std.specs.Option.{option_copied};
-ghost use Rattle.enc_modes.specs.declared.ty.Ty.TheVariants as types;
 ghost use Rattle.enc_types.specs.Words.{all_there};
 ghost use Rattle.enc_types.specs.Names as spec;
 ghost use Rattle.enc_types.specs.Plain as plain;
@@ -9,7 +8,7 @@ ghost use Rattle.enc_types.specs.Written as written;
 
 use crate::Places;
 use enc_ast::{Decl, GroupText, ModeWord, Row, Word};
-use enc_modes::{Alt, Cap, Group, Mode, Ty, copy_cap, in_order};
+use enc_modes::{Alt, Cap, Group, Mode, Ty, in_order};
 use std::alloc::{AllocError, Global};
 use std::marker::Model;
 
@@ -112,11 +111,11 @@ impl Names {
     {
         match self.groups_named(groups)? {
             None => Ok(None),
-            Some(groups) => Ok(Some(in_order(groups)?)),
+            Some(groups) => Ok(Some(in_order(self.alloc, groups)?)),
         }
     }
 
-    fn groups_named(&self, groups: &[GroupText]) -> Result<Option<Cap>, AllocError>
+    fn groups_named(&self, groups: &[GroupText]) -> Result<Option<Row<Group>>, AllocError>
         ensures { IfOk result (λ cap. cap ≡ all_there (λ g. all_there (λ n. spec.trait_named self.now n.word) g.names) groups.now) }
     {
         let mut rows = Row::new(self.alloc);
@@ -213,29 +212,17 @@ impl Names {
         ensures { IfOk result (λ ty. ty ≡ written.alone_layer (number, is.now)) }
     {
         match is {
-            Meaning::Trait(mode) => Ok(Some(one_trait(
-                self.alloc,
-                Alt {
-                    number,
-                    mode: *mode,
-                },
-            )?)),
-            Meaning::Class(Some(cap)) => Ok(Some(Ty::Cap(copy_cap(self.alloc, cap)?))),
+            Meaning::Trait(mode) => {
+                let mode = *mode;
+                let cap = Cap::of_trait(self.alloc, Alt { number, mode })?;
+                Ok(Some(Ty::Cap(cap)))
+            }
+            Meaning::Class(Some(cap)) => Ok(Some(Ty::Cap(cap.share()?))),
             Meaning::Class(None) => Ok(None),
             Meaning::Active => Ok(Some(Ty::Actor(number))),
             Meaning::Fun => Ok(None),
         }
     }
-}
-
-fn one_trait(alloc: Global, alt: Alt) -> Result<Ty, AllocError>
-    ensures { IfOk result (λ ty. ty ≡ types.Cap ((alt ∷ []) ∷ [])) }
-{
-    let mut group = Row::new(alloc);
-    group.push(alt)?;
-    let mut cap = Row::new(alloc);
-    cap.push(group)?;
-    Ok(Ty::Cap(cap))
 }
 
 fn word_of(decl: &Decl) -> &Word

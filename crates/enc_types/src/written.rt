@@ -9,7 +9,7 @@ ghost use Rattle.enc_types.specs.Written as spec;
 
 use crate::Names;
 use enc_ast::{Boxed, Fail, GroupText, Rule, Span, TypeForm, TypeText};
-use enc_modes::{Alt, Cap, Mode, Ty, composes, is_shareable};
+use enc_modes::{Alt, Cap, Mode, Ty, is_shareable};
 use enc_premises::demand;
 use std::alloc::AllocError;
 
@@ -76,7 +76,7 @@ impl Names {
         match self.named_type(groups)? {
             None => Ok(None),
             Some(ty) => {
-                demand(Rule::KSig, span, self.is_composed(&ty)?)?;
+                demand(Rule::KSig, span, is_composed(&ty))?;
                 Ok(Some(ty))
             }
         }
@@ -145,16 +145,6 @@ impl Names {
         true
     }
 
-    #[tactic(auto, unfolding(crate::specs::Written::is_composed))]
-    fn is_composed(&self, ty: &Ty) -> Result<bool, AllocError>
-        ensures { IfOk result (λ composed. composed ≡ spec.is_composed ty.now) }
-    {
-        match ty {
-            Ty::Cap(cap) => composes(self.alloc(), cap),
-            _ => Ok(true),
-        }
-    }
-
     fn named_type(&self, groups: &[GroupText]) -> Result<Option<Ty>, AllocError>
         ensures { IfOk result (λ ty. ty ≡ spec.named_type self.now groups.now) }
     {
@@ -175,6 +165,16 @@ impl Names {
             None => Ok(None),
             Some(cap) => Ok(Some(Ty::Cap(cap))),
         }
+    }
+}
+
+#[tactic(auto, unfolding(crate::specs::Written::is_composed))]
+fn is_composed(ty: &Ty) -> bool
+    ensures { result ≡ spec.is_composed ty.now }
+{
+    match ty {
+        Ty::Cap(cap) => cap.composes(),
+        _ => true,
     }
 }
 

@@ -1,4 +1,5 @@
-use Rattle.std.proofs.Common.{rules, ◌∙◌, ap}
+use Rattle.std.specs.Prelude.{◌≡◌, IfOk}
+use Rattle.std.proofs.Common.{rules, ◌∙◌, ap, subst}
 use Rattle.std.proofs.lemmas.List.Sorted.{answers_always}
 use Rattle.enc_modes.specs.Order.{Group, sorted, place_of, in_order}
 use Rattle.enc_modes.proofs.Sorting.{sort_is_sorted}
@@ -6,7 +7,8 @@ use Rattle.enc_modes.proofs.order.in_order.Goals as goal
 
 pub returns : goal.returns
 unfolding in_order
-returns c =
-    c.from_vec.ensures
+returns c = subst (λ z. IfOk c.of.result (λ cap. cap ≡ z))
+    (c.from_vec.ensures
     ∙ sort_is_sorted place_of _ _ (c.in_ok-sort_by_key.ensures.sorted place_of (answers_always _ _ _ (λ f a r g h. search rules))) (c.in_ok-sort_by_key.ensures.stable place_of (answers_always _ _ _ (λ f a r g h. search rules)))
-    ∙ ap (sorted {A = Group} place_of) (c.into_vec-groups.ensures ∙ c.in_ok-each_in_order.ensures)
+    ∙ ap (sorted {A = Group} place_of) (c.into_vec-sorted.ensures ∙ c.in_ok-each_in_order.ensures))
+    c.of.ensures
