@@ -3,11 +3,11 @@
 use crate::fixture::{pair_of, program, refused, stmts_of};
 use checker_tests::marked::unmarked;
 use enc_ast::{
-    Boxed, Decl, ExprForm, Fail as Refusal, GroupText, Program, Reject, Row, Rule, SourceForm,
-    Span, StmtForm, TypeText, Word,
+    Decl, ExprForm, Fail as Refusal, GroupText, Program, Reject, Row, Rule, SourceForm, Span,
+    StmtForm, TypeText, Word,
 };
 use enc_decls::judge;
-use enc_modes::{Alt, Cap, Mode, Ty};
+use enc_modes::{Alt, Cap, Mode, Shared, Ty};
 use enc_parse::parse;
 use enc_premises::demand;
 use enc_types::{Meaning, Names, Places, body_types, local_of};
@@ -148,7 +148,7 @@ fn written_types_stand_for_types(rt: HostRuntime) -> Result<(), Fail> {
         ),
         (
             "let v = null[List[int]];",
-            Ty::List(Boxed::new(alloc, Ty::Int)?),
+            Ty::List(Shared::new(alloc, Ty::Int)?),
         ),
     ] {
         let program = program(alloc, text)?;

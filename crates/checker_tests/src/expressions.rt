@@ -38,7 +38,7 @@ impl Setting {
         let mut env = Env::new(alloc);
         for name in NAMES.split(' ') {
             if let Some(ty) = field_type(&tables, name) {
-                declare(&mut env, Word::copy_of(alloc, name)?, ty.copy(alloc)?)?;
+                declare(&mut env, Word::copy_of(alloc, name)?, ty.share()?)?;
             }
         }
         if let Some(moved) = env.find("m") {
@@ -265,8 +265,8 @@ fn variables_are_typed_by_tables(rt: HostRuntime) -> Result<(), Fail> {
     let tables = Setting::of(alloc, "1")?.tables;
     let env = only_k(alloc)?;
     let seen = variable_at(alloc, "k", 0, 1)?;
-    assert!(rt; matches!(type_of(alloc, &tables, &env, &seen), Ok(Ty::Int)));
-    assert!(rt; matches!(typed(alloc, tables.names(), &env, &seen), Ok(Ty::Int)));
+    assert!(rt; matches!(&type_of(alloc, &tables, &env, &seen), Ok(Ty::Int)));
+    assert!(rt; matches!(&typed(alloc, tables.names(), &env, &seen), Ok(Ty::Int)));
     let unseen = variable_at(alloc, "z", 4, 5)?;
     let found = pair_of(type_of(alloc, &tables, &env, &unseen));
     assert_eq!(rt; found, Some(("E-VAR", 4, 5)));

@@ -9,8 +9,6 @@ mod expressions;
 mod look_ups;
 pub mod marked;
 #[cfg(test)]
-mod modes;
-#[cfg(test)]
 mod statements;
 #[cfg(test)]
 mod variables;

@@ -62,11 +62,13 @@ fn written(alloc: Global, tables: &Tables, text: &str) -> Result<Option<Ty>, Fai
 fn written_types_are_looked_up(rt: HostRuntime) -> Result<(), Fail> {
     let alloc = rt.alloc();
     let tables = found(alloc)?;
-    let Some(Ty::List(item)) = written(alloc, &tables, "List[int]")? else {
+    let list = written(alloc, &tables, "List[int]")?;
+    let Some(Ty::List(item)) = &list else {
         panic!(rt; "a list")
     };
     assert!(rt; matches!(item.get(), Ty::Int));
-    let Some(Ty::Cap(groups)) = written(alloc, &tables, "P")? else {
+    let class = written(alloc, &tables, "P")?;
+    let Some(Ty::Cap(groups)) = &class else {
         panic!(rt; "groups")
     };
     let [first, second] = groups.as_slice() else {
@@ -133,6 +135,7 @@ fn methods_are_of_what_is_declared(rt: HostRuntime) -> Result<(), Fail> {
         assert_eq!(rt; tables.method(&Ty::Actor(number), "up"), None);
         assert_eq!(rt; tables.sent_method(&Ty::Actor(number), "up"), None);
     }
+    assert_eq!(rt; tables.method(&Ty::Actor(4), "twice"), None);
     let active = alt(6, Mode::Local);
     assert_eq!(rt; tables.method(&alone(alloc, active, 1)?, "put"), None);
     assert_eq!(rt; tables.sent_method(&Ty::Bestowed(active), "put"), None);
@@ -186,7 +189,7 @@ fn names_are_looked_up(rt: HostRuntime) -> Result<(), Fail> {
     let tables = found(rt.alloc())?;
     assert_eq!(rt; tables.function("twice"), Some(4));
     assert_eq!(rt; tables.function("A"), None);
-    assert!(rt; matches!(tables.class("D")?, Some(Ty::Actor(6))));
+    assert!(rt; matches!(&tables.class("D")?, Some(Ty::Actor(6))));
     assert!(rt; tables.class("A")?.is_none());
     let read = Alt {
         number: 3,

@@ -150,7 +150,9 @@ S-CALL let o = new Owner; let x = new Node; «o.keep(x, x);»
 E-TYPE let x = new C; x.add(1, «2»);
 E-TYPE let x = new C; let k = x.add(«true», true);
 E-TYPE let d = new D; d ! put(«1»);
-E-TYPE let d = new D; d.put(«2»);";
+E-TYPE let d = new D; d.put(«2»);
+E-TYPE let q = new Q; let b = bestow q; b ! set(«true»);
+E-COPY let d = new D; let c = new C; d ! put((«c»));";
 
 const GOOD_CALLS: &str = "let x = new P; x.down(); x.add(1, true);
 let x = new C; let k = x.add(1, true); print k + 1;
@@ -179,6 +181,7 @@ S-CHAIN «let g = chain 1 with twice();»
 S-CHAIN let d = new D; let f = d ! put(null[A]); «let g = chain f with twice();»
 E-TYPE let d = new D; let f = d ! ask(); let g = chain f with sum(«true»);
 E-TYPE let g = chain 1 with sum(«true»);
+E-TYPE let p = lift 1; let g = seq p with sum(«true»);
 S-PART «let p = each 1;»
 S-PART let q = new Q; «let p = lift q;»
 S-PART «let p = lift future 1;»
@@ -336,6 +339,7 @@ E-VAR fun g(k: int): int { «this».n = k; return k; }
 E-VAR fun g(k: int): int { «this».m(); return k; }
 E-COPY linear trait A { def m(): unit { let x = «this»; } }
 E-COPY linear trait A { def m(): A { return «this»; } }
+E-COPY linear trait A { def m(x: A): A { return («x»); } }
 E-MOVED linear trait A { def m(x: A): unit { this.m(«this»); } }
 S-READONLY read trait W { n: int; def m(): unit { «this.n = 1;» } }
 S-READONLY read trait W { n: int; def m(k: int): unit { if true { «this.n = k;» } } }

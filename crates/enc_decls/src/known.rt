@@ -95,7 +95,7 @@ fn types_of(alloc: Global, entries: &[Entry]) -> Result<IndexMap<String, Option<
 {
     let mut types = IndexMap::new(alloc);
     for entry in entries {
-        let ty = narrowed(alloc, &types, entry)?;
+        let ty = narrowed(&types, entry)?;
         let word = entry.word.copy()?;
         types.insert(word.into_string(), ty)?;
     }
@@ -103,17 +103,13 @@ fn types_of(alloc: Global, entries: &[Entry]) -> Result<IndexMap<String, Option<
 }
 
 // The type that the fields of a name have behind one more of them.
-fn narrowed(
-    alloc: Global,
-    types: &IndexMap<String, Option<Ty>>,
-    entry: &Entry,
-) -> Result<Option<Ty>, AllocError>
+fn narrowed(types: &IndexMap<String, Option<Ty>>, entry: &Entry) -> Result<Option<Ty>, AllocError>
     ensures { IfOk result (λ ty. ty ≡ spec.narrowed (get_by_text types.now entry.now.word) entry.now.ty) }
 {
     if !may_have(types, entry) {
         return Ok(None);
     }
-    Ok(Some(entry.ty.copy(alloc)?))
+    Ok(Some(entry.ty.share()?))
 }
 
 // Whether the known fields of the name have the type of this one.

@@ -4,8 +4,8 @@ ghost use Rattle.enc_modes.specs.declared.ty.Ty.TheVariants as ty;
 ghost use Rattle.enc_types.specs.Words.{some};
 ghost use Rattle.enc_decls.specs.Rules as spec;
 
-use enc_ast::{Boxed, Decl, Method, Param, TypeText};
-use enc_modes::Ty;
+use enc_ast::{Decl, Method, Param, TypeText};
+use enc_modes::{Shared, Ty};
 use enc_types::Names;
 use std::alloc::{AllocError, Global};
 
@@ -14,7 +14,7 @@ use std::alloc::{AllocError, Global};
 pub fn has_main(alloc: Global, decls: &[Decl], names: &Names) -> Result<bool, AllocError>
     ensures { IfOk result (λ it. it ≡ some (spec.is_main_class names.now) decls.now) }
 {
-    let ints = Ty::List(Boxed::new(alloc, Ty::Int)?);
+    let ints = Ty::List(Shared::new(alloc, Ty::Int)?);
     has_main_class(names, &ints, decls)
 }
 

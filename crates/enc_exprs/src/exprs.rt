@@ -179,5 +179,5 @@ fn owned(
     ensures ty { IfOk result (λ t. t ≡ spec.expr_type names.now env.now expr.now) }
 {
     let told = expr_type(alloc, names, env, expr, place)?;
-    Ok(told.into_ty(alloc)?)
+    Ok(told.into_ty()?)
 }

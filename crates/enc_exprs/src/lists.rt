@@ -4,17 +4,17 @@ ghost use Rattle.std.specs.Option.{option_copied};
 ghost use Rattle.enc_modes.specs.declared.ty.Ty.TheVariants as ty;
 ghost use Rattle.enc_premises.specs.Premises.{each, ◌⨾◌};
 ghost use Rattle.enc_premises.specs.Passing.{Passes};
-ghost use Rattle.enc_exprs.specs.Types.{is_list, is_int, like, items as items_of};
+ghost use Rattle.enc_exprs.specs.Types.{is_list, is_int, like, item_of as element_of, items as items_of};
 ghost use Rattle.enc_exprs.specs.Told.{told};
 ghost use Rattle.enc_exprs.specs.Exprs as spec;
 
 use crate::operands::{Asked, matching, operand};
 use crate::told::Told;
-use crate::types::items;
+use crate::types::{item_of, items};
 use crate::uses::Use;
-use enc_ast::{Boxed, Expr, Fail};
+use enc_ast::{Expr, Fail};
 use enc_flow::Scope;
-use enc_modes::Ty;
+use enc_modes::{Shared, Ty};
 use enc_types::Names;
 use std::alloc::{AllocError, Global};
 
@@ -35,7 +35,7 @@ pub fn list<'a>(
         [first, others @ ..] => {
             let ty = operand(alloc, names, env, first, Use::Copies, Asked::Shareable)?;
             all_match(alloc, names, env, others, ty.ty())?;
-            Ok(Told::made(list_of(alloc, ty.into_ty(alloc)?)?))
+            Ok(Told::made(list_of(alloc, ty.into_ty()?)?))
         }
     }
 }
@@ -59,7 +59,7 @@ fn all_match(
 
 /// The type of an element of a list at a number.
 #[cycle(expr)]
-#[tactic(auto, using(enc_premises::proofs::Passing::passing))]
+#[tactic(auto, using(enc_premises::proofs::Passing::passing, crate::proofs::Memory::out_of_memory))]
 pub fn at<'a>(
     alloc: Global,
     names: &Names,
@@ -72,7 +72,7 @@ pub fn at<'a>(
 {
     let ty = operand(alloc, names, env, list, Use::Copies, Asked::List)?;
     operand(alloc, names, env, number, Use::Copies, Asked::Int)?;
-    Ok(into_item(ty))
+    Ok(into_item(ty)?)
 }
 
 /// The type of a list with one more element.
@@ -98,18 +98,26 @@ pub fn list_of(alloc: Global, item: Option<Ty>) -> Result<Option<Ty>, AllocError
     ensures { IfOk result (λ t. t ≡ option_map ty.List item) }
 {
     match item {
-        Some(item) => Ok(Some(Ty::List(Boxed::new(alloc, item)?))),
+        Some(item) => Ok(Some(Ty::List(Shared::new(alloc, item)?))),
         None => Ok(None),
     }
 }
 
-#[tactic(auto, unfolding(crate::specs::Types::item_of))]
-fn into_item<'a>(list: Told<'a>) -> Told<'a>
-    ensures { told result ≡ items_of (told list.entry) }
+fn into_item<'a>(list: Told<'a>) -> Result<Told<'a>, AllocError>
+    ensures { IfOk result (λ t. told t ≡ items_of (told list.entry)) }
 {
     match list {
-        Told::Seen(Ty::List(item)) => Told::Seen(item.get()),
-        Told::Made(Ty::List(item)) => Told::Made(item.into_inner()),
-        _ => Told::Unknown,
+        Told::Unknown => Ok(Told::Unknown),
+        Told::Seen(ty) => Ok(Told::seen(item_of(ty))),
+        Told::Made(ty) => Ok(Told::made(shared_item(&ty)?)),
+    }
+}
+
+fn shared_item(list: &Ty) -> Result<Option<Ty>, AllocError>
+    ensures { IfOk result (λ item. item ≡ element_of list.now) }
+{
+    match item_of(list) {
+        Some(item) => Ok(Some(item.share()?)),
+        None => Ok(None),
     }
 }

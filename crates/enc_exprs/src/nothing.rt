@@ -12,8 +12,8 @@ ghost use Rattle.enc_modes.specs.Modes.{is_shareable};
 use crate::lists::list_of;
 use crate::operands::{Asked, is_known_as};
 use crate::told::Told;
-use enc_ast::{Boxed, Fail, Rule, Span, TypeText};
-use enc_modes::Ty;
+use enc_ast::{Fail, Rule, Span, TypeText};
+use enc_modes::{Shared, Ty};
 use enc_premises::demand;
 use enc_types::Names;
 use std::alloc::{AllocError, Global};
@@ -66,7 +66,7 @@ fn par_of(alloc: Global, item: Option<Ty>) -> Result<Option<Ty>, AllocError>
     ensures { IfOk result (λ t. t ≡ option_map ty.Par item) }
 {
     match item {
-        Some(item) => Ok(Some(Ty::Par(Boxed::new(alloc, item)?))),
+        Some(item) => Ok(Some(Ty::Par(Shared::new(alloc, item)?))),
         None => Ok(None),
     }
 }

@@ -5,7 +5,7 @@ ghost use Rattle.enc_flow.specs.Env.{or_else};
 ghost use Rattle.enc_exprs.specs.Told.{told};
 
 use enc_modes::Ty;
-use std::alloc::{AllocError, Global};
+use std::alloc::AllocError;
 
 /// The type of an expression, where it is known. That of a variable stays where it is.
 #[derive(Drop)]
@@ -57,13 +57,13 @@ impl<'a> Told<'a> {
         }
     }
 
-    /// The type as one of its own, or `None` where it isn't known. That of a variable is copied.
-    pub fn into_ty(self, alloc: Global) -> Result<Option<Ty>, AllocError>
+    /// The type as one of its own, or `None` where it isn't known. That of a variable is shared.
+    pub fn into_ty(self) -> Result<Option<Ty>, AllocError>
         ensures { IfOk result (λ ty. ty ≡ told self.entry) }
     {
         match self {
             Told::Unknown => Ok(None),
-            Told::Seen(ty) => Ok(Some(ty.copy(alloc)?)),
+            Told::Seen(ty) => Ok(Some(ty.share()?)),
             Told::Made(ty) => Ok(Some(ty)),
         }
     }

@@ -1,19 +1,18 @@
 // Capability types.
-ghost use Rattle.std.specs.Prelude.{◌≡◌, ◌∷◌, [], ◌↔◌, IsTrue, length, IfOk};
+ghost use Rattle.std.specs.Prelude.{◌≡◌, ◌∷◌, [], IfOk};
 ghost use Rattle.enc_modes.specs.Modes as spec;
 
-use crate::composing::compose;
-use crate::{Alt, Group};
+use crate::composing::go_together;
+use crate::{Alt, Group, Shared};
 use enc_ast::Row;
 use std::alloc::{AllocError, Global};
 use std::marker::Model;
-use std::rc::Rc;
 
 // Groups, and whether they go together, which is found once.
 #[derive(Drop)]
 struct Groups {
     rows: Row<Group>,
-    compose: bool,
+    go_together: bool,
 }
 
 impl Model for Groups {
@@ -29,13 +28,14 @@ impl Model for Groups {
 
     ghost view = { λ groups. groups.rows };
 
-    ghost invariant = { λ groups. groups.compose ≡ spec.composes groups.rows };
+    ghost invariant = { λ groups. groups.go_together ≡ spec.composes groups.rows };
 }
 
-/// Groups in the order of the declarations of their first traits. Copies share them.
+/// The groups of a capability type, which copies share. Those of a text stand in the order of the
+/// declarations of their first traits.
 #[derive(Drop)]
 pub struct Cap {
-    groups: Rc<Groups>,
+    groups: Shared<Groups>,
 }
 
 impl Model for Cap {
@@ -48,7 +48,7 @@ impl Model for Cap {
 
     ghost coded = { Prim.hlevel (codes, alt.the_row.coded) };
 
-    ghost view = { λ cap. cap.groups.value };
+    ghost view = { λ cap. cap.groups };
 }
 
 impl Cap {
@@ -56,9 +56,9 @@ impl Cap {
     pub fn of(alloc: Global, groups: Row<Group>) -> Result<Cap, AllocError>
         ensures { IfOk result (λ cap. cap ≡ groups) }
     {
-        let compose = compose(alloc, groups.as_slice())?;
+        let go_together = go_together(alloc, groups.as_slice())?;
         let rows = groups;
-        let groups = Rc::new(alloc, Groups { rows, compose })?;
+        let groups = Shared::new(alloc, Groups { rows, go_together })?;
         Ok(Cap { groups })
     }
 
@@ -71,8 +71,8 @@ impl Cap {
         group.push(alt)?;
         let mut rows = Row::new(alloc);
         rows.push(group)?;
-        let compose = true;
-        let groups = Rc::new(alloc, Groups { rows, compose })?;
+        let go_together = true;
+        let groups = Shared::new(alloc, Groups { rows, go_together })?;
         Ok(Cap { groups })
     }
 
@@ -81,7 +81,7 @@ impl Cap {
     pub fn composes(&self) -> bool
         ensures { result ≡ spec.composes self.now }
     {
-        self.groups.as_ref().compose
+        self.groups.get().go_together
     }
 
     /// The same groups once more, without a copy of them, or `AllocError` where they can't be shared
@@ -89,7 +89,7 @@ impl Cap {
     pub fn share(&self) -> Result<Cap, AllocError>
         ensures { IfOk result (λ shared. shared ≡ self.now) }
     {
-        let groups = self.groups.clone()?;
+        let groups = self.groups.share()?;
         Ok(Cap { groups })
     }
 
@@ -97,20 +97,6 @@ impl Cap {
     pub fn as_slice(&self) -> &[Group]
         ensures { result.now ≡ self.now }
     {
-        self.groups.as_ref().rows.as_slice()
-    }
-
-    /// How many groups there are.
-    pub fn len(&self) -> usize
-        ensures { result ≡ length self.now }
-    {
-        self.as_slice().len()
-    }
-
-    /// Whether there is no group.
-    pub fn is_empty(&self) -> bool
-        ensures { IsTrue result ↔ (self.now ≡ []) }
-    {
-        self.as_slice().is_empty()
+        self.groups.get().rows.as_slice()
     }
 }

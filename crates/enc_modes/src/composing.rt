@@ -13,7 +13,7 @@ use std::alloc::{AllocError, Global};
 /// Whether the groups go together: no trait stands in them twice, and of several groups each is a linear
 /// trait or a disjunction. It takes memory, and answers `AllocError` where that runs out.
 #[tactic(auto, unfolding(crate::specs::Modes::composes))]
-pub(crate) fn compose(alloc: Global, groups: &[Group]) -> Result<bool, AllocError>
+pub(crate) fn go_together(alloc: Global, groups: &[Group]) -> Result<bool, AllocError>
     ensures { IfOk result (λ yes. yes ≡ spec.composes groups.now) }
 {
     let numbers = traits_of(alloc, groups)?;

@@ -3,8 +3,7 @@ ghost use Rattle.std.specs.Prelude.{◌≡◌, IfOk};
 ghost use Rattle.enc_modes.specs.Equality as spec;
 
 use crate::{Alt, Group, Ty};
-use sqlite_items::Boxed;
-use std::alloc::{AllocError, Global};
+use std::alloc::AllocError;
 
 impl Ty {
     /// Whether both are the same type, down to the order of groups and traits.
@@ -12,24 +11,33 @@ impl Ty {
     pub fn is(&self, other: &Ty) -> bool
         ensures { result ≡ spec.same self.now other.now }
     {
-        match (self, other) {
-            (Ty::Int, Ty::Int) => true,
-            (Ty::Bool, Ty::Bool) => true,
-            (Ty::Text, Ty::Text) => true,
-            (Ty::Unit, Ty::Unit) => true,
-            (Ty::Actor(left), Ty::Actor(right)) => *left == *right,
-            (Ty::Cap(left), Ty::Cap(right)) => same_cap(left.as_slice(), right.as_slice()),
-            (Ty::Bestowed(left), Ty::Bestowed(right)) => same_alt(left, right),
-            (Ty::Fut(left), Ty::Fut(right)) => left.get().is(right.get()),
-            (Ty::Par(left), Ty::Par(right)) => left.get().is(right.get()),
-            (Ty::List(left), Ty::List(right)) => left.get().is(right.get()),
-            _ => false,
+        let mut left = self;
+        let mut right = other;
+        loop {
+            match (left, right) {
+                (Ty::Int, Ty::Int) => return true,
+                (Ty::Bool, Ty::Bool) => return true,
+                (Ty::Text, Ty::Text) => return true,
+                (Ty::Unit, Ty::Unit) => return true,
+                (Ty::Actor(first), Ty::Actor(second)) => return *first == *second,
+                (Ty::Cap(first), Ty::Cap(second)) => {
+                    return same_cap(first.as_slice(), second.as_slice());
+                }
+                (Ty::Bestowed(first), Ty::Bestowed(second)) => return same_alt(first, second),
+                (Ty::Fut(first), Ty::Fut(second))
+                | (Ty::Par(first), Ty::Par(second))
+                | (Ty::List(first), Ty::List(second)) => {
+                    left = first.get();
+                    right = second.get();
+                }
+                _ => return false,
+            }
         }
     }
 
-    /// A copy of the type, which shares its groups, or `AllocError` where memory runs out.
-    pub fn copy(&self, alloc: Global) -> Result<Ty, AllocError>
-        ensures { IfOk result (λ copied. copied ≡ self.now) }
+    /// The type once more, which shares its parts, or `AllocError` where they can't be shared more often.
+    pub fn share(&self) -> Result<Ty, AllocError>
+        ensures { IfOk result (λ shared. shared ≡ self.now) }
     {
         Ok(match self {
             Ty::Int => Ty::Int,
@@ -39,9 +47,9 @@ impl Ty {
             Ty::Actor(class) => Ty::Actor(*class),
             Ty::Cap(cap) => Ty::Cap(cap.share()?),
             Ty::Bestowed(alt) => Ty::Bestowed(*alt),
-            Ty::Fut(inner) => Ty::Fut(Boxed::new(alloc, inner.get().copy(alloc)?)?),
-            Ty::Par(inner) => Ty::Par(Boxed::new(alloc, inner.get().copy(alloc)?)?),
-            Ty::List(inner) => Ty::List(Boxed::new(alloc, inner.get().copy(alloc)?)?),
+            Ty::Fut(part) => Ty::Fut(part.share()?),
+            Ty::Par(part) => Ty::Par(part.share()?),
+            Ty::List(part) => Ty::List(part.share()?),
         })
     }
 }

@@ -17,8 +17,8 @@ pub fn split_of(whole: &Cap, left: &Cap, right: &Cap) -> bool
     ensures { result ≡ modes.split_of whole.now left.now right.now }
 {
     mode_of(whole) == Mode::Linear
-        && !left.is_empty()
-        && !right.is_empty()
+        && !left.as_slice().is_empty()
+        && !right.as_slice().is_empty()
         && are_parted(whole.as_slice(), left.as_slice(), right.as_slice())
 }
 

@@ -1,8 +1,7 @@
 // Types of values.
 
-use crate::Cap;
+use crate::{Cap, Shared};
 use enc_ast::Row;
-use sqlite_items::Boxed;
 
 /// How the references of a capability type may be used.
 #[derive(Clone, Copy, Debug, PartialEq, Eq)]
@@ -20,12 +19,10 @@ pub struct Alt {
     pub mode: Mode,
 }
 
-/// One trait, or the traits of a disjunction in the order of their declarations.
+/// One trait, or the traits of a disjunction. Those of a text stand in the order of their declarations.
 pub type Group = Row<Alt>;
 
-/// The type of a value.
-#[cycle(ty)]
-#[derive(Drop)]
+/// The type of a value. Copies share its parts.
 pub enum Ty {
     Int,
     Bool,
@@ -38,8 +35,27 @@ pub enum Ty {
     /// An object of some actor that has this local trait.
     Bestowed(Alt),
     /// A value that will be there later.
-    Fut(Boxed<Ty>),
+    Fut(Shared<Ty>),
     /// A tree of values, each of which is there now or later.
-    Par(Boxed<Ty>),
-    List(Boxed<Ty>),
+    Par(Shared<Ty>),
+    List(Shared<Ty>),
+}
+
+// A loop, since types have many thousands of layers in some programs.
+impl Drop for Ty {
+    fn drop(mut self) {
+        loop {
+            match self {
+                Ty::Fut(part) | Ty::Par(part) | Ty::List(part) => match part.into_last() {
+                    Some(ty) => self = ty,
+                    None => return,
+                },
+                Ty::Cap(cap) => {
+                    drop(cap);
+                    return;
+                }
+                Ty::Int | Ty::Bool | Ty::Text | Ty::Unit | Ty::Actor(_) | Ty::Bestowed(_) => return,
+            }
+        }
+    }
 }

@@ -5,9 +5,9 @@ ghost use Rattle.enc_premises.specs.Premises.{if_known};
 ghost use Rattle.enc_sources.specs.Shapes.{made_by, part_by, shared as shared_type};
 
 use crate::parts::{future_of, tree_of};
-use enc_ast::{Boxed, Rule};
+use enc_ast::Rule;
 use enc_exprs::item_of;
-use enc_modes::{Ty, is_shareable};
+use enc_modes::{Shared, Ty, is_shareable};
 use std::alloc::{AllocError, Global};
 
 /// The part of an operand's type that a source is about.
@@ -136,18 +136,18 @@ fn shared(ty: &Ty) -> Option<&Ty>
     if is_shareable(ty) { Some(ty) } else { None }
 }
 
-/// What is made of a part, where there is one. The part is copied.
+/// What is made of a part, where there is one. The part is shared.
 pub fn given(alloc: Global, made: Made, part: Option<&Ty>) -> Result<Option<Ty>, AllocError>
     ensures { IfOk result (λ t. t ≡ option_map (made_by made) (option_copied part.entry)) }
 {
     let Some(part) = part else {
         return Ok(None);
     };
-    let part = part.copy(alloc)?;
+    let part = part.share()?;
     Ok(Some(match made {
         Made::Same => part,
-        Made::Future => Ty::Fut(Boxed::new(alloc, part)?),
-        Made::Tree => Ty::Par(Boxed::new(alloc, part)?),
-        Made::List => Ty::List(Boxed::new(alloc, part)?),
+        Made::Future => Ty::Fut(Shared::new(alloc, part)?),
+        Made::Tree => Ty::Par(Shared::new(alloc, part)?),
+        Made::List => Ty::List(Shared::new(alloc, part)?),
     }))
 }

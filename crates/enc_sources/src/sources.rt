@@ -301,7 +301,7 @@ fn trees(
     let ty = expr_type(alloc, names, env, left, Use::Copies)?;
     let other = expr_type(alloc, names, env, right, Use::Copies)?;
     let holds = both_trees(ty.ty(), other.ty());
-    Ok(Outcome::asking(Rule::SPart, holds, ty.or(other).into_ty(alloc)?))
+    Ok(Outcome::asking(Rule::SPart, holds, ty.or(other).into_ty()?))
 }
 
 fn both_trees(left: Option<&Ty>, right: Option<&Ty>) -> bool

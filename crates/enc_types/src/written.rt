@@ -8,8 +8,8 @@ ghost use Rattle.enc_premises.specs.Passing.{Passes};
 ghost use Rattle.enc_types.specs.Written as spec;
 
 use crate::Names;
-use enc_ast::{Boxed, Fail, GroupText, Rule, Span, TypeForm, TypeText};
-use enc_modes::{Alt, Cap, Mode, Ty, is_shareable};
+use enc_ast::{Fail, GroupText, Rule, Span, TypeForm, TypeText};
+use enc_modes::{Alt, Cap, Mode, Shared, Ty, is_shareable};
 use enc_premises::demand;
 use std::alloc::AllocError;
 
@@ -38,7 +38,7 @@ impl Names {
 
     #[cycle(written)]
     #[tactic(auto, using(crate::proofs::Knowing::parts, enc_premises::proofs::Passing::passing))]
-    fn shared(&self, part: &TypeText, span: Span) -> Result<Option<Boxed<Ty>>, Fail>
+    fn shared(&self, part: &TypeText, span: Span) -> Result<Option<Shared<Ty>>, Fail>
         ensures premises { Passes result (spec.type_premises self.now part.now ⨾ node span ((rule.KSig, if_known modes.is_shareable (spec.type_of self.now part.now)) ∷ [])) }
         ensures ty { IfOk result (λ ty. ty ≡ spec.where_it modes.is_shareable (spec.type_of self.now part.now)) }
     {
@@ -46,7 +46,7 @@ impl Names {
             None => Ok(None),
             Some(ty) => {
                 demand(Rule::KSig, span, is_shareable(&ty))?;
-                Ok(Some(Boxed::new(self.alloc(), ty)?))
+                Ok(Some(Shared::new(self.alloc(), ty)?))
             }
         }
     }
@@ -178,19 +178,19 @@ fn is_composed(ty: &Ty) -> bool
     }
 }
 
-fn future(part: Option<Boxed<Ty>>) -> Option<Ty>
+fn future(part: Option<Shared<Ty>>) -> Option<Ty>
     ensures { result ≡ option_map types.Fut part }
 {
     Some(Ty::Fut(part?))
 }
 
-fn tree(part: Option<Boxed<Ty>>) -> Option<Ty>
+fn tree(part: Option<Shared<Ty>>) -> Option<Ty>
     ensures { result ≡ option_map types.Par part }
 {
     Some(Ty::Par(part?))
 }
 
-fn list(part: Option<Boxed<Ty>>) -> Option<Ty>
+fn list(part: Option<Shared<Ty>>) -> Option<Ty>
     ensures { result ≡ option_map types.List part }
 {
     Some(Ty::List(part?))

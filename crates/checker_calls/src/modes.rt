@@ -2,8 +2,8 @@
 
 use enc_ast::Row;
 use enc_modes::{
-    Alt, Cap, Group, Mode, Ty, choose_of, in_order, is_linear, is_sendable, is_shareable, mode_of,
-    pack_of, split_of,
+    Alt, Cap, Group, Mode, Shared, Ty, choose_of, in_order, is_linear, is_sendable, is_shareable,
+    mode_of, pack_of, split_of,
 };
 use std::alloc::{AllocError, Global};
 use std::process::Abort;
@@ -36,7 +36,7 @@ fn group(alloc: Global, digits: &str) -> Result<Group, AllocError> {
     Ok(group)
 }
 
-/// The only group of a type of one trait.
+/// A type of one trait.
 fn one(alloc: Global, mode: Mode) -> Result<Cap, AllocError> {
     Cap::of_trait(alloc, Alt { number: 3, mode })
 }
@@ -97,12 +97,25 @@ fn several_traits_are_linear(rt: HostRuntime) -> Result<(), Fail> {
 }
 
 #[test]
+fn traits_beside_others_are_linear(rt: HostRuntime) -> Result<(), Fail> {
+    let alloc = rt.alloc();
+    for mode in [Mode::Local, Mode::Read, Mode::Subordinate] {
+        let mut rows = groups(alloc, "1")?;
+        let mut group = Group::new(alloc);
+        group.push(Alt { number: 3, mode })?;
+        rows.push(group)?;
+        assert!(rt; !Cap::of(alloc, rows)?.composes());
+    }
+    Ok(())
+}
+
+#[test]
 fn groups_are_put_in_order(rt: HostRuntime) -> Result<(), Fail> {
     let alloc = rt.alloc();
     let sorted = Ty::Cap(in_order(alloc, groups(alloc, "5 42 3")?)?);
     assert!(rt; sorted.is(&Ty::Cap(cap(alloc, "24 3 5")?)));
     assert!(rt; !sorted.is(&Ty::Cap(cap(alloc, "42 3 5")?)));
-    assert!(rt; sorted.copy(alloc)?.is(&sorted));
+    assert!(rt; sorted.share()?.is(&sorted));
     Ok(())
 }
 
@@ -184,5 +197,57 @@ fn one_trait_is_chosen(rt: HostRuntime) -> Result<(), Fail> {
     assert_eq!(rt; choose_of(&cap(alloc, "12")?, 3), None);
     assert_eq!(rt; choose_of(&cap(alloc, "1")?, 1), None);
     assert_eq!(rt; choose_of(&cap(alloc, "12 3")?, 1), None);
+    Ok(())
+}
+
+#[test]
+fn a_split_asks_for_modes(rt: HostRuntime) -> Result<(), Fail> {
+    let alloc = rt.alloc();
+    let whole = cap(alloc, "1 3")?;
+    let left = cap(alloc, "1")?;
+    assert!(rt; split_of(&whole, &left, &one(alloc, Mode::Linear)?));
+    assert!(rt; !split_of(&whole, &left, &one(alloc, Mode::Read)?));
+    Ok(())
+}
+
+/// A type of so many layers of lists round integers.
+fn lists(alloc: Global, layers: usize) -> Result<Ty, AllocError> {
+    let mut ty = Ty::Int;
+    for _ in 0..layers {
+        ty = Ty::List(Shared::new(alloc, ty)?);
+    }
+    Ok(ty)
+}
+
+#[test]
+fn layers_take_no_stack(rt: HostRuntime) -> Result<(), Fail> {
+    let alloc = rt.alloc();
+    let deep = lists(alloc, 100_000)?;
+    assert!(rt; deep.is(&lists(alloc, 100_000)?));
+    assert!(rt; !deep.is(&lists(alloc, 100_001)?));
+    assert!(rt; deep.share()?.is(&deep));
+    Ok(())
+}
+
+#[test]
+fn layers_are_of_one_kind(rt: HostRuntime) -> Result<(), Fail> {
+    let alloc = rt.alloc();
+    let future = Ty::Fut(Shared::new(alloc, Ty::Int)?);
+    let tree = Ty::Par(Shared::new(alloc, Ty::Int)?);
+    let list = lists(alloc, 1)?;
+    assert!(rt; future.is(&future) && tree.is(&tree) && list.is(&list));
+    assert!(rt; !future.is(&tree) && !tree.is(&list) && !list.is(&future));
+    assert!(rt; !future.is(&Ty::Int) && !Ty::Int.is(&list));
+    Ok(())
+}
+
+#[test]
+fn the_last_holder_gets_the_value(rt: HostRuntime) -> Result<(), Fail> {
+    let alloc = rt.alloc();
+    let first = Shared::new(alloc, 5)?;
+    let second = first.share()?;
+    assert_eq!(rt; *second.get(), 5);
+    assert!(rt; first.into_last().is_none());
+    assert_eq!(rt; second.into_last(), Some(5));
     Ok(())
 }
