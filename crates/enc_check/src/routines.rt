@@ -19,7 +19,7 @@ use enc_types::{Meaning, Names};
 use std::alloc::{AllocError, Global};
 
 /// Judges the bodies of declarations, of which these are the tables, in the order of the text. It refuses
-/// by the first premise that fails.
+/// by the first premise that fails, and answers `Fail::Memory` where memory runs out.
 #[tactic(auto, using(enc_premises::proofs::Passing::passing, crate::proofs::Memory::memory))]
 pub fn bodies(alloc: Global, tables: &Tables, decls: &[Decl]) -> Result<(), Fail>
     ensures { Passes result (spec.bodies_from tables.now 0 decls.now) }

@@ -59,7 +59,8 @@ pub fn stmt(
 }
 
 /// Judges statements one after another, and leaves the variables that there are after them. It refuses
-/// by the first premise that fails, and leaves variables of no use then.
+/// by the first premise that fails, and answers `Fail::Memory` where memory runs out. It leaves variables
+/// of no use then.
 #[cycle(stmts)]
 pub fn in_order(
     alloc: Global,

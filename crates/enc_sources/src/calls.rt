@@ -23,7 +23,8 @@ use std::alloc::Global;
 
 /// Judges a receiver and arguments. A receiver of a linear type is moved before its arguments, and can
 /// be used again after them. The arguments are to be of the types of the parameters, where there are as
-/// many. It refuses by the first premise that fails. After an error nothing is known of the variables.
+/// many. It refuses by the first premise that fails, and answers `Fail::Memory` where memory runs out.
+/// After an error nothing is known of the variables.
 #[tactic(auto, using(enc_premises::proofs::Passing::passing), unfolding(enc_rules::specs::Calls::invoked, enc_rules::specs::Calls::after_invoked))]
 pub fn invoke(
     alloc: Global,
@@ -78,8 +79,8 @@ fn span_of(to: &Receiver) -> Span
 }
 
 /// Judges arguments one after another, each in a consuming place. Where there are as many parameters,
-/// each is to be of the type of its parameter. It refuses by the first premise that fails. After an
-/// error nothing is known of the variables.
+/// each is to be of the type of its parameter. It refuses by the first premise that fails, and answers
+/// `Fail::Memory` where memory runs out. After an error nothing is known of the variables.
 pub fn arguments(
     alloc: Global,
     names: &Names,

@@ -89,7 +89,8 @@ pub fn splits(whole: &Ty, left: &Ty, right: &Ty) -> bool
     }
 }
 
-/// The type of the groups of both, or `None` where they can't be put together.
+/// The type of the groups of both, or `None` where they can't be put together. Where memory runs out, it
+/// answers `AllocError`.
 #[tactic(auto, unfolding(enc_rules::specs::Parts::packed))]
 pub fn packed(alloc: Global, left: &Ty, right: &Ty) -> Result<Option<Ty>, AllocError>
     ensures { IfOk result (λ t. t ≡ spec.packed left.now right.now) }
@@ -101,7 +102,7 @@ pub fn packed(alloc: Global, left: &Ty, right: &Ty) -> Result<Option<Ty>, AllocE
 }
 
 /// The type of a reference whose disjunction is narrowed to the trait, or `None` where the type isn't
-/// one disjunction with this trait, or there is no trait.
+/// one disjunction with this trait, or there is no trait. Where memory runs out, it answers `AllocError`.
 #[tactic(auto, unfolding(enc_rules::specs::Parts::chosen))]
 pub fn chosen(alloc: Global, ty: &Ty, alt: Option<Alt>) -> Result<Option<Ty>, AllocError>
     ensures { IfOk result (λ t. t ≡ spec.chosen ty.now alt) }
@@ -112,7 +113,8 @@ pub fn chosen(alloc: Global, ty: &Ty, alt: Option<Alt>) -> Result<Option<Ty>, Al
     }
 }
 
-/// The type of a reference by one trait alone, where there is one.
+/// The type of a reference by one trait alone, where there is one. Where memory runs out, it answers
+/// `AllocError`.
 pub fn of_trait(alloc: Global, alt: Option<Alt>) -> Result<Option<Ty>, AllocError>
     ensures { IfOk result (λ t. t ≡ option_map spec.chosen_alt alt) }
 {

@@ -35,7 +35,8 @@ use enc_types::local_of;
 use std::alloc::Global;
 
 /// Judges the parts of a source, and answers what else its statement has to keep. It refuses by the first
-/// premise of the parts that fails. After an error nothing is known of the variables.
+/// premise of the parts that fails, and answers `Fail::Memory` where memory runs out. After an error
+/// nothing is known of the variables.
 #[tactic(auto, unfolding(enc_rules::specs::Sources::outcome))]
 pub fn source(
     alloc: Global,
@@ -189,7 +190,8 @@ fn sent_value(
 }
 
 /// Judges the receiver and the arguments of a call, and answers what else its statement has to keep. It
-/// refuses by the first premise of the parts that fails. After an error nothing is known of the variables.
+/// refuses by the first premise of the parts that fails, and answers `Fail::Memory` where memory runs out.
+/// After an error nothing is known of the variables.
 #[tactic(auto, using(enc_premises::proofs::Passing::passing))]
 pub fn call(
     alloc: Global,
@@ -219,7 +221,8 @@ pub fn call(
 }
 
 /// Judges the receiver and the arguments of a send, and answers what else its statement has to keep. It
-/// refuses by the first premise of the parts that fails. After an error nothing is known of the variables.
+/// refuses by the first premise of the parts that fails, and answers `Fail::Memory` where memory runs out.
+/// After an error nothing is known of the variables.
 #[tactic(auto, using(enc_premises::proofs::Passing::passing))]
 pub fn send(
     alloc: Global,

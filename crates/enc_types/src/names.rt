@@ -49,7 +49,7 @@ impl Model for Names {
 }
 
 impl Names {
-    /// What the names of a program's declarations stand for.
+    /// What the names of a program's declarations stand for, or `AllocError` where memory runs out.
     pub fn of(alloc: Global, decls: &[Decl]) -> Result<Names, AllocError>
         ensures { IfOk result (λ names. names ≡ spec.names_of decls.now) }
     {
@@ -194,7 +194,8 @@ impl Names {
         }
     }
 
-    /// The type that a name by itself stands for, or `None` where it stands for none.
+    /// The type that a name by itself stands for, or `None` where it stands for none. Where memory runs out,
+    /// it answers `AllocError`.
     #[tactic(auto, unfolding(crate::specs::Written::type_named, crate::specs::Names::found))]
     pub fn type_named(&self, name: &str) -> Result<Option<Ty>, AllocError>
         ensures { IfOk result (λ ty. ty ≡ written.type_named self.now name.now) }

@@ -15,7 +15,8 @@ use std::alloc::AllocError;
 
 impl Names {
     /// The type that is written, or the first rule that it breaks. The answer is `None` where nothing is
-    /// wrong with the type itself, but the list of a class that it names has a name of no trait.
+    /// wrong with the type itself, but the list of a class that it names has a name of no trait. Where memory
+    /// runs out, it fails by `Fail::Memory`.
     #[cycle(written)]
     #[tactic(auto, using(crate::proofs::TypeFolds::types, enc_premises::proofs::Passing::passing))]
     pub fn written(&self, text: &TypeText) -> Result<Option<Ty>, Fail>
@@ -108,7 +109,8 @@ impl Names {
         }
     }
 
-    /// The type that is written, or `None` where it may not be written or isn't known.
+    /// The type that is written, or `None` where it may not be written or isn't known. Where memory runs
+    /// out, it answers `AllocError`.
     #[tactic(auto, using(crate::proofs::KnownTypes::refusals))]
     pub fn ty(&self, text: &TypeText) -> Result<Option<Ty>, AllocError>
         ensures { IfOk result (λ ty. ty ≡ spec.type_of self.now text.now) }
