@@ -238,6 +238,7 @@ fn layers_are_of_one_kind(rt: HostRuntime) -> Result<(), Fail> {
     assert!(rt; future.is(&future) && tree.is(&tree) && list.is(&list));
     assert!(rt; !future.is(&tree) && !tree.is(&list) && !list.is(&future));
     assert!(rt; !future.is(&Ty::Int) && !Ty::Int.is(&list));
+    assert!(rt; !list.is(&Ty::List(Shared::new(alloc, Ty::Bool)?)));
     Ok(())
 }
 

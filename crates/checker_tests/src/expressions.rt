@@ -201,6 +201,8 @@ rs [r]
 rs [r, r, null[R]]
 fs [f, f]
 k at(xs, 0)
+k at([1, 2], 0)
+xs at([xs], 0)
 f at(fs, len(fs) - 1)
 xs append(xs, at(xs, 0))
 xs append([1], 2)

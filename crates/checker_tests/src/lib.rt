@@ -1,4 +1,4 @@
-//! Tests of the checker, and of each call that its crates offer.
+//! Tests of the checker by texts, and of variables, types of expressions and look-ups.
 #![tactic(auto)]
 
 #[cfg(test)]

@@ -19,7 +19,8 @@ use enc_types::{Meaning, Names};
 use std::alloc::{AllocError, Global};
 
 /// Judges the bodies of declarations, of which these are the tables, in the order of the text. It refuses
-/// by the first premise that fails, and answers `Fail::Memory` where memory runs out.
+/// by the first premise that fails, and answers `Fail::Memory` where memory runs out, also where more than
+/// 1,024 variables would be visible.
 #[tactic(auto, using(enc_premises::proofs::Passing::passing, crate::proofs::Memory::memory))]
 pub fn bodies(alloc: Global, tables: &Tables, decls: &[Decl]) -> Result<(), Fail>
     ensures { Passes result (spec.bodies_from tables.now 0 decls.now) }
@@ -55,8 +56,8 @@ fn methods(alloc: Global, tables: &Tables, owner: u32, methods: &[Method]) -> Re
 }
 
 /// Judges the body of a method of the trait or the active class with this number, or of a function. It
-/// refuses by the first premise that fails. Memory runs out also where more than 1,024 variables would be
-/// visible.
+/// refuses by the first premise that fails, and answers `Fail::Memory` where memory runs out, also where
+/// more than 1,024 variables would be visible.
 #[tactic(auto, using(enc_premises::proofs::Passing::passing, crate::proofs::Memory::memory))]
 pub fn routine(
     alloc: Global,

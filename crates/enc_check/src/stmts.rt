@@ -59,8 +59,8 @@ pub fn stmt(
 }
 
 /// Judges statements one after another, and leaves the variables that there are after them. It refuses
-/// by the first premise that fails, and answers `Fail::Memory` where memory runs out. It leaves variables
-/// of no use then.
+/// by the first premise that fails, and answers `Fail::Memory` where memory runs out, also where more than
+/// 1,024 variables would be visible. After an error the variables are of no use.
 #[cycle(stmts)]
 pub fn in_order(
     alloc: Global,

@@ -25,7 +25,8 @@ pub fn are_free(env: &Scope, left: &Name, right: &Name) -> bool
     is_free(env, left) && is_free(env, right) && !left.word.is(right.word.as_str())
 }
 
-/// Adds a variable, whose type may be unknown. Memory runs out where there are 1,024 already, too.
+/// Adds a variable, whose type may be unknown. It answers `Fail::Memory` where memory runs out, also where
+/// there are 1,024 already.
 #[tactic(auto, using(crate::proofs::Memory::memory))]
 pub fn declare(env: &mut Scope, name: &Name, ty: Option<Ty>) -> Result<(), Fail>
     ensures memory { MemoryOnly result }
@@ -35,7 +36,7 @@ pub fn declare(env: &mut Scope, name: &Name, ty: Option<Ty>) -> Result<(), Fail>
     add(env, word, ty)
 }
 
-/// Adds a variable of this word, as `declare` does.
+/// Adds a variable of this word, and answers `Fail::Memory` where `declare` does.
 #[tactic(auto, using(crate::proofs::Memory::memory))]
 pub fn add(env: &mut Scope, word: Word, ty: Option<Ty>) -> Result<(), Fail>
     ensures memory { MemoryOnly result }

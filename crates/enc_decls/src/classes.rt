@@ -17,7 +17,7 @@ use enc_types::{Meaning, Names};
 use std::alloc::{AllocError, Global};
 
 /// Refuses a class by the first of its groups that breaks a rule, then by its name unless that is
-/// new, and then by what the groups make together.
+/// new, and then by what the groups make together. Where memory runs out, it answers `Fail::Memory`.
 #[tactic(auto, using(crate::proofs::Passing::passing))]
 pub fn judge_class(
     alloc: Global,

@@ -10,7 +10,7 @@ use enc_types::Names;
 use std::alloc::{AllocError, Global};
 
 /// Whether there is an active class `Main` whose method `main` takes a list of integers and gives
-/// nothing.
+/// nothing. Where memory runs out, it answers `AllocError`.
 pub fn has_main(alloc: Global, decls: &[Decl], names: &Names) -> Result<bool, AllocError>
     ensures { IfOk result (λ it. it ≡ some (spec.is_main_class names.now) decls.now) }
 {

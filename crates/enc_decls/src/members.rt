@@ -62,7 +62,8 @@ fn goes_along(ty: &Ty) -> bool
     }
 }
 
-/// Refuses by the first of the fields and the methods of an owner that breaks a rule.
+/// Refuses by the first of the fields and the methods of an owner that breaks a rule, and answers
+/// `Fail::Memory` where memory runs out.
 #[tactic(auto, using(crate::proofs::Passing::passing))]
 pub fn members(
     alloc: Global,

@@ -12,7 +12,8 @@ use enc_modes::{Ty, is_shareable};
 use enc_types::{Names, Places, body_types};
 use std::alloc::{AllocError, Global};
 
-/// Refuses by the first type in a method or a function that breaks a rule.
+/// Refuses by the first type in a method or a function that breaks a rule, and answers `Fail::Memory`
+/// where memory runs out.
 #[tactic(auto, using(crate::proofs::Passing::passing))]
 pub fn routine_types(names: &Names, method: &Method) -> Result<(), Fail>
     ensures { Passes result (spec.routine_types names.now method.now) }
@@ -32,7 +33,7 @@ fn param_types(names: &Names, params: &[Param]) -> Result<(), Fail>
     Ok(())
 }
 
-/// Whether no two parameters have one name.
+/// Whether no two parameters have one name, or `AllocError` where memory runs out.
 #[tactic(auto, using(crate::proofs::Words::distinct_fresh))]
 pub fn has_distinct_params(alloc: Global, params: &[Param]) -> Result<bool, AllocError>
     ensures { IfOk result (λ it. it ≡ spec.distinct_words (spec.param_words params.now)) }
@@ -47,7 +48,7 @@ pub fn has_distinct_params(alloc: Global, params: &[Param]) -> Result<bool, Allo
     Ok(true)
 }
 
-/// Whether a method by itself may be a function.
+/// Whether a method by itself may be a function, or `AllocError` where memory runs out.
 #[tactic(auto, unfolding(crate::specs::Rules::is_function))]
 pub fn is_function(alloc: Global, names: &Names, method: &Method) -> Result<bool, AllocError>
     ensures { IfOk result (λ it. it ≡ spec.is_function names.now method.now) }

@@ -18,7 +18,8 @@ use enc_modes::{Shared, Ty};
 use enc_types::Names;
 use std::alloc::{AllocError, Global};
 
-/// The type of a list of these elements.
+/// The type of a list of these elements. It refuses by the first premise that fails, and answers
+/// `Fail::Memory` where memory runs out.
 #[cycle(expr)]
 #[tactic(auto, using(enc_premises::proofs::Passing::passing, crate::proofs::Memory::out_of_memory, crate::proofs::Elements::list_none))]
 pub fn list<'a>(
@@ -57,7 +58,8 @@ fn all_match(
     Ok(())
 }
 
-/// The type of an element of a list at a number.
+/// The type of an element of a list at a number. It refuses by the first premise that fails, and answers
+/// `Fail::Memory` where memory runs out.
 #[cycle(expr)]
 #[tactic(auto, using(enc_premises::proofs::Passing::passing, crate::proofs::Memory::out_of_memory))]
 pub fn at<'a>(
@@ -75,7 +77,8 @@ pub fn at<'a>(
     Ok(into_item(ty)?)
 }
 
-/// The type of a list with one more element.
+/// The type of a list with one more element. It refuses by the first premise that fails, and answers
+/// `Fail::Memory` where memory runs out.
 #[cycle(expr)]
 #[tactic(auto, using(enc_premises::proofs::Passing::passing))]
 pub fn append<'a>(
@@ -93,7 +96,7 @@ pub fn append<'a>(
     Ok(ty)
 }
 
-/// The type of lists of a type, where it is known.
+/// The type of lists of a type, where it is known, or `AllocError` where memory runs out.
 pub fn list_of(alloc: Global, item: Option<Ty>) -> Result<Option<Ty>, AllocError>
     ensures { IfOk result (λ t. t ≡ option_map ty.List item) }
 {

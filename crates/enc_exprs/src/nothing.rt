@@ -18,7 +18,8 @@ use enc_premises::demand;
 use enc_types::Names;
 use std::alloc::{AllocError, Global};
 
-/// The type of what refers to nothing, of a written type.
+/// The type of what refers to nothing, of a written type. It refuses where that can't be, and answers
+/// `Fail::Memory` where memory runs out.
 pub fn null<'a>(names: &Names, text: &TypeText, span: Span) -> Result<Told<'a>, Fail>
     ensures premises { Passes result (node span ((rule.EType, known_as can_be_null (type_of names.now text.now)) ∷ [])) }
     ensures ty { IfOk result (λ t. told t ≡ type_of names.now text.now) }
@@ -26,7 +27,8 @@ pub fn null<'a>(names: &Names, text: &TypeText, span: Span) -> Result<Told<'a>, 
     Ok(Told::made(written(names, text, Asked::Null, span)?))
 }
 
-/// The type of the tree that has no value, of a written type.
+/// The type of the tree that has no value, of a written type. It refuses where that can't be, and answers
+/// `Fail::Memory` where memory runs out.
 #[tactic(auto, using(crate::proofs::Memory::out_of_memory))]
 pub fn empty<'a>(
     alloc: Global,
@@ -41,7 +43,8 @@ pub fn empty<'a>(
     Ok(Told::made(par_of(alloc, ty)?))
 }
 
-/// The type of the list that has no element, of a written type.
+/// The type of the list that has no element, of a written type. It refuses where that can't be, and
+/// answers `Fail::Memory` where memory runs out.
 #[tactic(auto, using(crate::proofs::Memory::out_of_memory))]
 pub fn nil<'a>(alloc: Global, names: &Names, text: &TypeText, span: Span) -> Result<Told<'a>, Fail>
     ensures premises { Passes result (node span ((rule.EType, known_as is_shareable (type_of names.now text.now)) ∷ [])) }

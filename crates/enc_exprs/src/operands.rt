@@ -75,7 +75,8 @@ fn matches_first(first: Option<&Ty>, ty: Option<&Ty>) -> bool
     }
 }
 
-/// The type of an operand of which something is asked.
+/// The type of an operand of which something is asked. It refuses by the first premise that fails, and
+/// answers `Fail::Memory` where memory runs out.
 #[cycle(expr)]
 #[tactic(auto, using(enc_premises::proofs::Passing::passing, crate::proofs::Meaning::spans))]
 pub fn operand<'a>(
@@ -94,7 +95,8 @@ pub fn operand<'a>(
     Ok(ty)
 }
 
-/// The type of an operand that is to be of the same type as an earlier one.
+/// The type of an operand that is to be of the same type as an earlier one. It refuses by the first premise
+/// that fails, and answers `Fail::Memory` where memory runs out.
 #[cycle(expr)]
 #[tactic(auto, using(enc_premises::proofs::Passing::passing, crate::proofs::Meaning::spans))]
 pub fn matching<'a>(
@@ -112,7 +114,8 @@ pub fn matching<'a>(
     Ok(ty)
 }
 
-/// The type of an operator's result.
+/// The type of an operator's result. It refuses by the first premise that fails, and answers
+/// `Fail::Memory` where memory runs out.
 #[cycle(expr)]
 #[tactic(auto, using(enc_premises::proofs::Passing::passing))]
 pub fn binary<'a>(

@@ -57,7 +57,8 @@ impl<'a> Told<'a> {
         }
     }
 
-    /// The type as one of its own, or `None` where it isn't known. That of a variable is shared.
+    /// The type as one of its own, or `None` where it isn't known. That of a variable is shared: where it
+    /// can't be more often, it answers `AllocError`.
     pub fn into_ty(self) -> Result<Option<Ty>, AllocError>
         ensures { IfOk result (λ ty. ty ≡ told self.entry) }
     {

@@ -59,7 +59,7 @@ impl Model for Plain {
 }
 
 impl Plain {
-    /// The machine at the start of the program's run.
+    /// The machine at the start of the program's run, or `AllocError` where memory runs out.
     #[tactic(auto, using(crate::proofs::Runs::machines))]
     pub fn of(alloc: Global, checked: Checked) -> Result<Plain, AllocError>
         requires { IsTrue (is_thin checked) }

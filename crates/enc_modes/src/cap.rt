@@ -31,8 +31,8 @@ impl Model for Groups {
     ghost invariant = { λ groups. groups.go_together ≡ spec.composes groups.rows };
 }
 
-/// The groups of a capability type, which copies share. Those of a text stand in the order of the
-/// declarations of their first traits.
+/// The groups of a capability type. `share` gives them once more without a copy. Those of a text stand in
+/// the order of the declarations of their first traits.
 #[derive(Drop)]
 pub struct Cap {
     groups: Shared<Groups>,

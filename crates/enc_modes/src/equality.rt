@@ -1,4 +1,4 @@
-// When two types are the same, and copies of them.
+// When two types are the same, and how one is shared.
 ghost use Rattle.std.specs.Prelude.{◌≡◌, IfOk};
 ghost use Rattle.enc_modes.specs.Equality as spec;
 
@@ -35,7 +35,8 @@ impl Ty {
         }
     }
 
-    /// The type once more, which shares its parts, or `AllocError` where they can't be shared more often.
+    /// The same type once more, without a copy of its parts, or `AllocError` where they can't be shared more
+    /// often.
     pub fn share(&self) -> Result<Ty, AllocError>
         ensures { IfOk result (λ shared. shared ≡ self.now) }
     {

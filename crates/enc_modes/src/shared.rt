@@ -1,11 +1,11 @@
-// Values that copies share.
+// Values that several hold.
 ghost use Rattle.std.specs.Prelude.{◌≡◌, IfOk, IfSome};
 
 use std::alloc::{AllocError, Global};
 use std::marker::Model;
 use std::rc::Rc;
 
-/// A value on the heap, which copies share. Contracts see the value.
+/// A value on the heap that several hold. Contracts see the value.
 #[derive(Drop)]
 pub struct Shared<T> {
     inner: Rc<T>,
@@ -46,7 +46,8 @@ impl<T> Shared<T> {
         self.inner.as_ref()
     }
 
-    /// The value where nobody else shares it, and otherwise `None`: then those that share it keep it.
+    /// The value where nobody else holds it. It is `None` where others do, and they keep it; that it is so
+    /// there alone is no promise.
     pub fn into_last(self) -> Option<T>
         ensures { IfSome result (λ value. value ≡ self) }
     {

@@ -22,7 +22,7 @@ pub struct Alt {
 /// One trait, or the traits of a disjunction. Those of a text stand in the order of their declarations.
 pub type Group = Row<Alt>;
 
-/// The type of a value. Copies share its parts.
+/// The type of a value. `share` gives it once more with the same parts.
 pub enum Ty {
     Int,
     Bool,

@@ -136,7 +136,7 @@ fn shared(ty: &Ty) -> Option<&Ty>
     if is_shareable(ty) { Some(ty) } else { None }
 }
 
-/// What is made of a part, where there is one. The part is shared.
+/// What is made of a part, where there is one, or `AllocError` where memory runs out. The part isn't copied.
 pub fn given(alloc: Global, made: Made, part: Option<&Ty>) -> Result<Option<Ty>, AllocError>
     ensures { IfOk result (λ t. t ≡ option_map (made_by made) (option_copied part.entry)) }
 {

@@ -16,7 +16,7 @@ use std::alloc::AllocError;
 impl Names {
     /// The type that is written, or the first rule that it breaks. The answer is `None` where nothing is
     /// wrong with the type itself, but the list of a class that it names has a name of no trait. Where memory
-    /// runs out, it fails by `Fail::Memory`.
+    /// runs out, it answers `Fail::Memory`.
     #[cycle(written)]
     #[tactic(auto, using(crate::proofs::TypeFolds::types, enc_premises::proofs::Passing::passing))]
     pub fn written(&self, text: &TypeText) -> Result<Option<Ty>, Fail>
