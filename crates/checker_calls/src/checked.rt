@@ -2,12 +2,12 @@
 
 use crate::fixture::pair_of;
 use checker_tests::marked::unmarked;
-use enc_check::check;
+use enc_check::{check, judge};
 use enc_names::tables;
 use enc_parse::parse;
 use enc_rules::Checked;
 use enc_within::spelled_is_within;
-use std::alloc::Global;
+use std::alloc::{AllocError, Global};
 use std::test::Fail;
 
 /// A counter is sent on from actor to actor.
@@ -75,5 +75,36 @@ fn programs_are_refused(rt: HostRuntime) -> Result<(), Fail> {
     spelled_is_within(row.text.as_bytes(), &program);
     let found = pair_of(check(alloc, program));
     assert_eq!(rt; found, Some(("E-MOVED", row.span)));
+    Ok(())
+}
+
+/// A quarter of the brackets that stand round a variable, and of those behind it.
+const OPENING: &str = "[[[[[[[[[[[[[[[[[[[[[[[[[[[[[[[[[[[[[[[[[[[[[[[[[[[[[[[[[[[[[[";
+
+const CLOSING: &str = "]]]]]]]]]]]]]]]]]]]]]]]]]]]]]]]]]]]]]]]]]]]]]]]]]]]]]]]]]]]]]]";
+
+/// A text of variables of which each is a list in 248 brackets round the one before.
+fn lists_of_lists(alloc: Global, variables: u32) -> Result<String, AllocError> {
+    let begin = "active class Main { def main(args: List[int]): unit { let v0 = 1;";
+    let mut text = String::from_str(alloc, begin)?;
+    for number in 1..variables {
+        let last = number - 1;
+        let opening = format!(in alloc;
+            "let v{number} = {OPENING}{OPENING}{OPENING}{OPENING}v{last}"
+        )?;
+        let closing = format!(in alloc; "{CLOSING}{CLOSING}{CLOSING}{CLOSING};")?;
+        text.push_str(opening.as_str())?;
+        text.push_str(closing.as_str())?;
+    }
+    text.push_str(" } }")?;
+    Ok(text)
+}
+
+#[test]
+fn types_of_many_layers_take_no_stack(rt: HostRuntime) -> Result<(), Fail> {
+    let alloc = rt.alloc();
+    let text = lists_of_lists(alloc, 250)?;
+    let program = parse(alloc, text.as_bytes())?;
+    assert!(rt; judge(alloc, &program).is_ok());
     Ok(())
 }
